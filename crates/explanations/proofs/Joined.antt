@@ -3,7 +3,7 @@ use Rattle.std.proofs.Common.{◌≡◌, ◌∙◌, ◌==◌, ℕ, true, false, 
 use Rattle.std.proofs.Common.{refl, sym, ap, Result, Ok, Err, OnOk, is_ok, if◌then◌else◌}
 use Rattle.std.proofs.lemmas.Str.{encodes-append}
 use Rattle.std.proofs.lemmas.List.{map-append}
-use Rattle.explanations.specs.ExplanationText.{cut_text, part}
+use Rattle.explanations.specs.ExplanationText.{cut_text, framed}
 
 -- what follows if a text is appended
 pub on_pushed : {T E Q : Type 0} (r : Result T E) (old more new : List ℕ) → new ≡ (if is_ok r then old ++ more else old) → (new ≡ old ++ more → Q) → OnOk r Q
@@ -24,12 +24,12 @@ mapped_more f cs c d start old new before is more =
 three : (out a b c d o p q r : List ℕ) → o ≡ out ++ a → p ≡ o ++ b → q ≡ p ++ c → r ≡ q ++ d → r ≡ out ++ ((a ++ (b ++ c)) ++ d)
 three out a b c d o p q r first second third fourth = rw fourth rw third rw second rw first (simp append_assoc refl)
 
--- a part that is not empty
-pub part_of : (before text after : List ℕ) (most : ℕ) (shown mark out o p q r : List ℕ) → false ≡ (length text == 0) → shown ++ mark ≡ cut_text text most
-    → o ≡ out ++ before → p ≡ o ++ shown → q ≡ p ++ mark → r ≡ q ++ after → r ≡ out ++ part before text most after
-part_of before [] after most shown mark out o p q r some is first second third fourth = absurd (apart some)
+-- a framed text that is not empty
+pub framed_as : (before text after : List ℕ) (most : ℕ) (shown mark out o p q r : List ℕ) → false ≡ (length text == 0) → shown ++ mark ≡ cut_text text most
+    → o ≡ out ++ before → p ≡ o ++ shown → q ≡ p ++ mark → r ≡ q ++ after → r ≡ out ++ framed before text most after
+framed_as before [] after most shown mark out o p q r some is first second third fourth = absurd (apart some)
   where
     apart : false ≡ true → ⊥
     apart e = cc
-part_of before (x ∷ xs) after most shown mark out o p q r some is first second third fourth =
+framed_as before (x ∷ xs) after most shown mark out o p q r some is first second third fourth =
     three out before shown mark after o p q r first second third fourth ∙ ap (λ (l : List ℕ). out ++ ((before ++ l) ++ after)) is

@@ -26,7 +26,7 @@ use Rattle.fault_places.specs.declared.spans.Span.{Span}
 use Rattle.fault_places.specs.Spans.{IsSpanOf, IsNameSpanOf}
 use Rattle.explanations.specs.declared.pieces.Piece.{Piece}
 use Rattle.explanations.specs.Files.{File, Files}
-use Rattle.explanations.specs.Parts.{IsPartOf, IsNothing, IsSourceAt, IsWholeAt, entry_words, IsMessageExplained, AppendsSome}
+use Rattle.explanations.specs.TextParts.{IsPartOf, IsNothing, IsSourceAt, IsWholeAt, entry_words, IsMessageExplained, AppendsSome}
 use Rattle.explanations.specs.Pieces.{ArePiecesOf}
 use Rattle.explanations.specs.Policies.{is_searched, is_name, large_note, IsNameOrExpressionSpan, IsFaultText, IsCheckExplained, passes_so, rejected_so, too_large, ArePoliciesExplained}
 use Rattle.explanations.specs.UnparsedFiles.{byte_in, is_that, names_token, IsReadErrorText, IsPieceExplained, is_read, is_unread, ArePiecesExplained, AppendsExplained}

@@ -9,7 +9,7 @@ use Rattle.explanations.proofs.ReadableErrors.{both, nothing, source_is_readable
 use Rattle.fault_places.specs.declared.explaining.PolicyFault.{PolicyFault}
 use Rattle.explanations.specs.declared.pieces.Piece.{Piece}
 use Rattle.explanations.specs.Files.{File, Files}
-use Rattle.explanations.specs.Parts.{IsNothing, IsSourceAt, IsWholeAt, entry_words, IsMessageExplained}
+use Rattle.explanations.specs.TextParts.{IsNothing, IsSourceAt, IsWholeAt, entry_words, IsMessageExplained}
 use Rattle.explanations.specs.Policies as of_policies
 use Rattle.explanations.specs.Policies.{IsFaultText, IsCheckExplained, passes_so, rejected_so, too_large, IsPolicyExplained, ArePoliciesExplained}
 use Rattle.explanations.specs.UnparsedFiles as of_pieces

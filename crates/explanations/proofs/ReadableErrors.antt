@@ -18,8 +18,8 @@ use Rattle.explanations.specs.Excerpt.{is_control, is_bidi_control, is_hidden, s
 use Rattle.explanations.specs.Excerpt.{mark_if, heading, line_row, caret_row, excerpt}
 use Rattle.explanations.specs.declared.finding.SourceFinding.{SourceFinding}
 use Rattle.explanations.specs.declared.finding.WholeFinding.{WholeFinding}
-use Rattle.explanations.specs.ExplanationText.{readable, cut_text, cause_part, says_line, hint_line, detail_line, rest_text, place_text}
-use Rattle.explanations.specs.ExplanationText.{span_between, IsSourceText, index_part, file_line, IsWholeText}
+use Rattle.explanations.specs.ExplanationText.{readable, cut_text, cause_words, says_line, hint_line, detail_line, rest_text, place_text}
+use Rattle.explanations.specs.ExplanationText.{span_between, IsSourceText, index_words, file_line, IsWholeText}
 use Rattle.explanations.specs.Readable.{is_shown, IsReadable}
 
 -- ---- tests
@@ -186,7 +186,7 @@ cut_reads text most =
     let more = nat_lt most (length (chars text)) in
     both (readable text most) (mark_if more (codes "..")) (read text most) (marked more (codes "..") refl)
 
-cause_reads : (cause : List ℕ) → IsReadable (cause_part cause)
+cause_reads : (cause : List ℕ) → IsReadable (cause_words cause)
 cause_reads [] = nothing
 cause_reads (c ∷ cs) =
     let a = both (codes " `") (cut_text (c ∷ cs) 60) (plain (codes " `") refl) (cut_reads (c ∷ cs) 60) in
@@ -196,7 +196,7 @@ says_reads : (code : ℕ) (says cause : List ℕ) → are_printable says ≡ tru
 says_reads code says cause h =
     let a = both (codes "error ") (decimal code) (plain (codes "error ") refl) (number code) in
     let b = both _ says (both _ (codes ": ") a (plain (codes ": ") refl)) (plain says h) in
-    both _ (10 ∷ []) (both _ (cause_part cause) b (cause_reads cause)) feed
+    both _ (10 ∷ []) (both _ (cause_words cause) b (cause_reads cause)) feed
 
 hint_reads : (advice : List ℕ) → are_printable advice ≡ true → IsReadable (hint_line advice)
 hint_reads advice h = both _ (10 ∷ []) (both (codes "  hint: ") advice (plain (codes "  hint: ") refl) (plain advice h)) feed
@@ -206,7 +206,7 @@ detail_reads [] = nothing
 detail_reads (c ∷ cs) =
     both _ (10 ∷ []) (both (codes "  ") (cut_text (c ∷ cs) 400) (plain (codes "  ") refl) (cut_reads (c ∷ cs) 400)) feed
 
-index_reads : (index : Option ℕ) → IsReadable (index_part index)
+index_reads : (index : Option ℕ) → IsReadable (index_words index)
 index_reads None = nothing
 index_reads (Some index) =
     let a = both (codes ", entity ") (decimal index) (plain (codes ", entity ") refl) (number index) in
@@ -215,7 +215,7 @@ index_reads (Some index) =
 file_reads : (file : List ℕ) (index : Option ℕ) → IsReadable (file_line file index)
 file_reads file index =
     let a = both (codes " --> ") (readable file (length file)) (plain (codes " --> ") refl) (read file (length file)) in
-    both _ (10 ∷ []) (both _ (index_part index) a (index_reads index)) feed
+    both _ (10 ∷ []) (both _ (index_words index) a (index_reads index)) feed
 
 -- ---- whole explanations
 

@@ -9,7 +9,7 @@ use Rattle.schema_decisions.specs.answer_lines.declared.refusal.Refusal.{Refusal
 use Rattle.explanations.specs.declared.pieces.Piece.{Piece}
 use Rattle.explanations.specs.Pieces as pieces
 use Rattle.explanations.specs.Pieces.{ArePieces, open_after, pieces_after, piece_at}
-use Rattle.explanations.specs.Parts.{AppendsSome}
+use Rattle.explanations.specs.TextParts.{AppendsSome}
 use Rattle.explanations.specs.Policies as explained
 use Rattle.explanations.specs.Policies.{IsPolicyExplained, ArePoliciesExplained}
 use Rattle.explanations.specs.UnparsedFiles as unread

@@ -3,16 +3,16 @@
 -- first error is explained, with its index in the array and, under a schema, the JSON pointer of the part at fault.
 use Rattle.std.specs.Prelude.{◌≡◌, ◌⊎◌, ℕ, List, [], ◌++◌, Option, None, Some, Ok, Err, codes}
 use Rattle.schema_decisions.specs.schema.Schemas.{StatedSchema}
-use Rattle.schema_decisions.specs.entity_data.declared.entity.Entity.{Entity}
+use Rattle.entities.specs.entity_data.declared.entity.Entity.{Entity}
 use Rattle.schema_decisions.specs.answer_lines.declared.refusal.Refusal.{Refusal}
 use Rattle.schema_decisions.specs.decision_texts.BareReading.{bare_reading}
 use Rattle.schema_decisions.specs.decision_texts.Decisions as bare
 use Rattle.schema_decisions.specs.decision_texts.EntityArrays.{entities_of}
 use Rattle.schema_decisions.specs.Decisions as typed
 use Rattle.schema_decisions.specs.UnderSchema.{reading_under}
-use Rattle.value_paths.specs.PartWords.{NamesPartOfItem, NamesPartOfRequestText}
+use Rattle.explanations.specs.PartWords.{NamesPartOfItem, NamesPartOfRequestText}
 use Rattle.explanations.specs.Files.{File}
-use Rattle.explanations.specs.Parts.{IsNothing, IsWholeAt}
+use Rattle.explanations.specs.TextParts.{IsNothing, IsWholeAt}
 
 -- `any_request` is a request that parses without a schema.
 abbrev pub any_request : List ℕ

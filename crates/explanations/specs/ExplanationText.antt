@@ -22,20 +22,20 @@ readable text most = shown text 0 most
 abbrev pub cut_text : List ℕ → ℕ → List ℕ
 cut_text text most = readable text most ++ mark_if (nat_lt most (length (chars text))) (codes "..")
 
--- `part before text most after` is `before`, `text` cut after `most` characters, and `after`; nothing if `text` is
--- empty.
-abbrev pub part : List ℕ → List ℕ → ℕ → List ℕ → List ℕ
-part before [] most after = []
-part before (c ∷ cs) most after = before ++ cut_text (c ∷ cs) most ++ after
+-- `framed before text most after` is `before`, `text` cut after `most` characters, and `after`; nothing if `text`
+-- is empty.
+abbrev pub framed : List ℕ → List ℕ → ℕ → List ℕ → List ℕ
+framed before [] most after = []
+framed before (c ∷ cs) most after = before ++ cut_text (c ∷ cs) most ++ after
 
--- `cause_part cause` is a space and `cause` in backticks, cut after 60 characters; nothing if `cause` is empty.
-abbrev pub cause_part : List ℕ → List ℕ
-cause_part cause = part (codes " `") cause 60 (codes "`")
+-- `cause_words cause` is a space and `cause` in backticks, cut after 60 characters; nothing if `cause` is empty.
+abbrev pub cause_words : List ℕ → List ℕ
+cause_words cause = framed (codes " `") cause 60 (codes "`")
 
 -- `says_line code says cause` is the line `error CODE: SAYS`, with `cause` in backticks at its end, unless `cause` is
 -- empty.
 abbrev pub says_line : ℕ → List ℕ → List ℕ → List ℕ
-says_line code says cause = codes "error " ++ decimal code ++ codes ": " ++ says ++ cause_part cause ++ 10 ∷ []
+says_line code says cause = codes "error " ++ decimal code ++ codes ": " ++ says ++ cause_words cause ++ 10 ∷ []
 
 -- `hint_line advice` is the line that says what to do.
 abbrev pub hint_line : List ℕ → List ℕ
@@ -43,7 +43,7 @@ hint_line advice = codes "  hint: " ++ advice ++ 10 ∷ []
 
 -- `detail_line detail` is the line of `detail`, cut after 400 characters; nothing if `detail` is empty.
 abbrev pub detail_line : List ℕ → List ℕ
-detail_line detail = part (codes "  ") detail 400 (10 ∷ [])
+detail_line detail = framed (codes "  ") detail 400 (10 ∷ [])
 
 -- `AreWordsOf words says advice` holds if `says` and `advice` are those of `words`, the texts on a code; or the two
 -- fixed texts where `words` is `None`, as for a code that no error has.
@@ -98,15 +98,15 @@ pub record IsSourceText (file text : List ℕ) (finding : SourceFinding) (bytes 
 
 -- ---- an error in a whole text, or in an item of an array
 
--- `index_part index` is `, entity INDEX (from 0)`; nothing if there is no index.
-abbrev pub index_part : Option ℕ → List ℕ
-index_part None = []
-index_part (Some index) = codes ", entity " ++ decimal index ++ codes " (from 0)"
+-- `index_words index` is `, entity INDEX (from 0)`; nothing if there is no index.
+abbrev pub index_words : Option ℕ → List ℕ
+index_words None = []
+index_words (Some index) = codes ", entity " ++ decimal index ++ codes " (from 0)"
 
 -- `file_line file index` is the line ` --> FILE, entity INDEX (from 0)`, without the part after FILE if there is no
 -- index.
 abbrev pub file_line : List ℕ → Option ℕ → List ℕ
-file_line file index = codes " --> " ++ readable file (length file) ++ index_part index ++ 10 ∷ []
+file_line file index = codes " --> " ++ readable file (length file) ++ index_words index ++ 10 ∷ []
 
 -- `whole_text file finding says advice` is the explanation: what is wrong, the file, the detail, and the hint.
 abbrev pub whole_text : List ℕ → WholeFinding → List ℕ → List ℕ → List ℕ

@@ -14,7 +14,7 @@ use Rattle.schema_decisions.specs.decision_texts.Decisions.{ArePoliciesOf, ArePo
 use Rattle.schema_decisions.specs.Checks.{IsSchemaRefused}
 use Rattle.explanations.specs.Files.{File, Files}
 use Rattle.explanations.specs.declared.pieces.Piece.{Piece}
-use Rattle.explanations.specs.Parts.{IsNothing, IsWholeAt}
+use Rattle.explanations.specs.TextParts.{IsNothing, IsWholeAt}
 use Rattle.explanations.specs.Pieces.{ArePiecesOf}
 use Rattle.explanations.specs.Policies.{ArePoliciesExplained}
 use Rattle.explanations.specs.UnparsedFiles.{IsReadErrorText, ArePiecesExplained}

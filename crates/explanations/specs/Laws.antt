@@ -5,7 +5,7 @@ use Rattle.std.specs.Prelude.{ℕ, List}
 use Rattle.explanations.specs.Readable.{IsReadable}
 use Rattle.schema_decisions.specs.answer_lines.declared.refusal.Refusal.{Refusal}
 use Rattle.explanations.specs.Files.{Files}
-use Rattle.explanations.specs.Parts.{IsMessageExplained}
+use Rattle.explanations.specs.TextParts.{IsMessageExplained}
 use Rattle.explanations.specs.FileExplanations.{IsExplained}
 
 -- `ExplainedTextsAreReadable`: each explanation of files, and of a rejected message, is readable (`IsReadable`),

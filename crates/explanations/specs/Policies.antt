@@ -22,7 +22,7 @@ use Rattle.explanations.specs.declared.pieces.Piece.{Piece}
 use Rattle.explanations.specs.Pieces.{piece_at}
 use Rattle.fault_places.specs.declared.spans.Span.{Span}
 use Rattle.fault_places.specs.Spans.{IsSpanOf, IsNameSpanOf}
-use Rattle.explanations.specs.Parts.{IsNothing, IsPartOf, IsSourceAt}
+use Rattle.explanations.specs.TextParts.{IsNothing, IsPartOf, IsSourceAt}
 
 -- `is_searched place policy` tests whether `policy`, at `place`, is searched for the expression at fault: its text has
 -- at most 10,000 bytes, and its condition at most 10,000 nodes. (A text of 1,000 bytes may have 1,000,000 nodes: nested

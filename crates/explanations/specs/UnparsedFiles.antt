@@ -1,9 +1,9 @@
 -- Defines the explanation of the policies of a file that does not parse.
--- Rules of this product: each part of the file that ends with a `;`, or with the file, is parsed as a file of its own,
--- in order. A part that does not parse is explained by its first error; if a part parses, its policy is explained as in
--- a file that parses. The error of a part is that of the file if both have the same code at the same byte, or the same
--- code 18 or 19, whose errors have no byte of their own. An error is shown at the token at its byte; an error of the
--- grammar has that token as its cause.
+-- Rules of this product: each piece of the file, which ends with a `;` or with the file, is parsed as a file of its
+-- own, in order. A piece that does not parse is explained by its first error; if a piece parses, its policy is
+-- explained as in a file that parses. The error of a piece is that of the file if both have the same code at the same
+-- byte, or the same code 18 or 19, whose errors have no byte of their own. An error is shown at the token at its byte;
+-- an error of the grammar has that token as its cause.
 use Rattle.std.specs.Prelude.{◌==◌, ◌&&◌, nat_le, ◌<◌, ◌≤◌, ◌⊎◌, codes, length}
 use Rattle.std.specs.Prelude.{◌≡◌, ℕ, ◌+◌, min, Bool, true, false, ◌||◌, List, [], ◌∷◌, ◌++◌, Option, unwrap_or}
 use Rattle.std.specs.Prelude.{find, option_map}
@@ -15,7 +15,7 @@ use Rattle.policy_grammar.specs.PolicyText.{IsPolicyFile, IsFileRefused}
 use Rattle.schema_decisions.specs.schema.Schemas.{StatedSchema}
 use Rattle.schema_decisions.specs.answer_lines.declared.refusal.Refusal.{Refusal}
 use Rattle.explanations.specs.declared.pieces.Piece.{Piece}
-use Rattle.explanations.specs.Parts.{IsPartOf, IsSourceAt}
+use Rattle.explanations.specs.TextParts.{IsPartOf, IsSourceAt}
 use Rattle.explanations.specs.Policies.{ArePoliciesExplained}
 
 -- `byte_in piece fault` is the byte of the whole text at which `piece` has the error `fault`. (At most 2^64 - 1, which

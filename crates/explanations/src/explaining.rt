@@ -4,16 +4,16 @@ ghost use Rattle.std.specs.Str.{IsValidUpTo};
 ghost use Rattle.schema_decisions.specs.schema.Views.{schema_view};
 ghost use Rattle.schema_decisions.specs.answer_lines.Refusals.{no_memory};
 ghost use Rattle.explanations.specs.Files.{file_of, files_of};
-ghost use Rattle.explanations.specs.Parts.{AppendsSome};
+ghost use Rattle.explanations.specs.TextParts.{AppendsSome};
 ghost use Rattle.explanations.specs.FileExplanations.{AreTokensOf, IsTextExplained};
 ghost use Rattle.explanations.specs.FileExplanations.{IsNoTextExplained, IsFileExplained, AreOthersExplained};
 ghost use Rattle.explanations.specs.FileExplanations.{IsUnreadExplained, IsExplained};
 
 use crate::given::{Given, NamedText};
 use crate::others::{explain_entities, explain_request};
-use crate::parts::{push_refusal, unless_no_memory};
 use crate::pieces::{Piece, pieces_of};
 use crate::policies::explain_policies;
+use crate::text_parts::{push_refusal, unless_no_memory};
 use crate::unread::{Lexed, explain_pieces, push_read_fault};
 use grammar_desugaring::{LexFault, Token, tokens};
 use plain::NoMemory;
@@ -169,7 +169,8 @@ fn explain_given(alloc: Global, out: &mut String, given: &Given<'_, '_>) -> Resu
 
 /// Returns the text that explains what is rejected in these texts: the schema alone, if it is rejected; else each
 /// rejected policy, in the order of the file, then the first error of the entities, then that of the request. It is
-/// empty if and only if nothing is rejected.
+/// empty if and only if nothing is rejected. Under a schema the explanation of an entity or of the request names the
+/// part at fault by its JSON pointer and, for a part of the attributes or of the context, its declared type.
 ///
 /// A policy that does not pass validation is explained with the code that `check` reports. If the file does not parse,
 /// each piece of it, which ends with a `;` or with the file, is parsed as a file of its own: it is explained by its own

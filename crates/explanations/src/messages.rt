@@ -1,7 +1,7 @@
 //! Explains that a message is rejected.
 ghost use Rattle.std.specs.Prelude.{◌≡◌, ◌++◌, IfOk, OnOk, string_bytes};
 ghost use Rattle.explanations.specs.CodeText.{words_on};
-ghost use Rattle.explanations.specs.Parts.{name_in, inner_words, entry_words, IsMessageExplained};
+ghost use Rattle.explanations.specs.TextParts.{name_in, inner_words, entry_words, IsMessageExplained};
 
 use crate::finding::WholeFinding;
 use crate::segments::{Segment, push_all};

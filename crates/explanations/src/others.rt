@@ -4,16 +4,16 @@ ghost use Rattle.plain.specs.AllocationErrors.{OrNoMemory};
 ghost use Rattle.schema_decisions.specs.schema.Views.{schema_view};
 ghost use Rattle.schema_decisions.specs.answer_lines.Refusals.{no_memory};
 ghost use Rattle.explanations.specs.Files.{file_of};
-ghost use Rattle.explanations.specs.Parts.{AppendsSome};
+ghost use Rattle.explanations.specs.TextParts.{AppendsSome};
 ghost use Rattle.explanations.specs.EntitiesAndRequests.{IsRequestRead, IsRequestRefused};
 ghost use Rattle.explanations.specs.EntitiesAndRequests.{AreEntitiesExplained, IsRequestExplained};
 
 use crate::given::NamedText;
-use crate::parts::push_refusal;
+use crate::part_naming::{entity_part, request_part};
+use crate::text_parts::push_refusal;
 use plain::NoMemory;
 use schema_decisions::{Refusal, Schema, UnderSchema, check_entities, decide_texts, decide_under};
 use std::alloc::Global;
-use value_paths::{entity_part, request_part};
 
 /// A request that parses without a schema.
 const ANY_REQUEST: &[u8] =

@@ -1,15 +1,15 @@
 //! Explains policies that do not pass validation.
 ghost use Rattle.std.specs.Prelude.{◌≡◌, false, OnOk, IfOk, map, string_bytes, option_map};
 ghost use Rattle.schema_decisions.specs.schema.Views.{schema_view};
-ghost use Rattle.explanations.specs.Parts.{AppendsSome};
+ghost use Rattle.explanations.specs.TextParts.{AppendsSome};
 ghost use Rattle.explanations.specs.Policies.{is_searched, IsSpanFound, IsFaultText};
 ghost use Rattle.explanations.specs.Policies.{IsCheckExplained, IsPolicyExplained, ArePoliciesExplained};
 
 use crate::finding::SourceFinding;
 use crate::node_limits::has_at_most;
-use crate::parts::part_of;
 use crate::pieces::{Piece, piece_at};
 use crate::source::push_source;
+use crate::text_parts::part_of;
 use fault_places::{PolicyFault, Span, TypeFault, check, explain_fault, name_span, span_of};
 use plain::NoMemory;
 use schema_decisions::{Policy, Schema};

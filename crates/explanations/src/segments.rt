@@ -2,7 +2,7 @@
 ghost use Rattle.std.specs.Prelude.{◌≡◌, ◌++◌, OnOk, string_bytes, length, chars, encode_utf8_all, map, take, drop};
 ghost use Rattle.std.specs.List.{flat_map};
 ghost use Rattle.explanations.specs.Excerpt.{is_hidden, mark_if};
-ghost use Rattle.explanations.specs.ExplanationText.{part, index_part};
+ghost use Rattle.explanations.specs.ExplanationText.{framed, index_words};
 ghost use Rattle.explanations.specs.inner.Segments.{drawn_char, bytes_of};
 
 use plain::NoMemory;
@@ -24,9 +24,9 @@ pub(crate) enum Segment<'t> {
     Repeated(char, usize),
     /// `Index(index)`: `, entity INDEX (from 0)`; nothing without an index.
     Index(Option<usize>),
-    /// `Part(before, text, most, after)`: `before`, `text` cut after `most` characters, and `after`; nothing if `text`
-    /// is empty.
-    Part(&'t str, &'t str, usize, &'t str),
+    /// `Framed(before, text, most, after)`: `before`, `text` cut after `most` characters, and `after`; nothing if
+    /// `text` is empty.
+    Framed(&'t str, &'t str, usize, &'t str),
 }
 
 // Returns whether a character is a control character other than a tab, or changes the direction of writing.
@@ -92,14 +92,14 @@ fn push_chars(
 }
 
 // Appends `before`, `text` cut after `most` characters, and `after`; nothing if `text` is empty.
-fn push_part(
+fn push_framed(
     out: &mut String,
     before: &str,
     text: &str,
     most: usize,
     after: &str,
 ) -> Result<(), NoMemory>
-    ensures { OnOk result (string_bytes out.new ≡ string_bytes out.old ++ part before.now text.now most after.now) }
+    ensures { OnOk result (string_bytes out.new ≡ string_bytes out.old ++ framed before.now text.now most after.now) }
 {
     if text.is_empty() {
         return Ok(());
@@ -112,7 +112,7 @@ fn push_part(
 
 // Appends `, entity INDEX (from 0)`, or nothing without an index.
 fn push_index(out: &mut String, index: Option<usize>) -> Result<(), NoMemory>
-    ensures { OnOk result (string_bytes out.new ≡ string_bytes out.old ++ index_part index) }
+    ensures { OnOk result (string_bytes out.new ≡ string_bytes out.old ++ index_words index) }
 {
     match index {
         Some(index) => write!(out, ", entity {index} (from 0)"),
@@ -131,7 +131,7 @@ fn push_segment(out: &mut String, segment: Segment<'_>) -> Result<(), NoMemory>
         Segment::Blanks(text, skipped, count) => push_chars(out, text, skipped, count, true),
         Segment::Repeated(c, count) => out.extend(repeat_n(c, count)),
         Segment::Index(index) => push_index(out, index),
-        Segment::Part(before, text, most, after) => push_part(out, before, text, most, after),
+        Segment::Framed(before, text, most, after) => push_framed(out, before, text, most, after),
     }
 }
 

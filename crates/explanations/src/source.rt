@@ -45,7 +45,7 @@ pub(crate) fn push_says<'t>(
             Segment::Number(usize::from(code)),
             Segment::Text(": "),
             Segment::Text(says),
-            Segment::Part(" `", cause, MOST_CAUSE, "`"),
+            Segment::Framed(" `", cause, MOST_CAUSE, "`"),
             Segment::Text("\n"),
         ],
     )
@@ -65,8 +65,8 @@ pub(crate) fn push_rest<'t>(
     push_all(
         out,
         &[
-            Segment::Part("  ", detail, MOST_DETAIL, "\n"),
-            Segment::Part("  ", note, MOST_DETAIL, "\n"),
+            Segment::Framed("  ", detail, MOST_DETAIL, "\n"),
+            Segment::Framed("  ", note, MOST_DETAIL, "\n"),
             Segment::Text("  hint: "),
             Segment::Text(advice),
             Segment::Text("\n"),

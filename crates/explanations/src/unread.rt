@@ -1,15 +1,15 @@
 //! Explains files of policies that do not parse.
 ghost use Rattle.std.specs.Prelude.{◌≡◌, OnOk, IfOk, option_map, string_bytes};
 ghost use Rattle.schema_decisions.specs.schema.Views.{schema_view};
-ghost use Rattle.explanations.specs.Parts.{AppendsSome};
+ghost use Rattle.explanations.specs.TextParts.{AppendsSome};
 ghost use Rattle.explanations.specs.UnparsedFiles.{IsPieceExplained, ArePiecesExplained, AppendsExplained};
 ghost use Rattle.explanations.specs.UnparsedFiles.{end_of_token, is_that, IsCauseAt, IsReadErrorText};
 
 use crate::finding::SourceFinding;
-use crate::parts::part_of;
 use crate::pieces::Piece;
 use crate::policies::explain_policies;
 use crate::source::push_source;
+use crate::text_parts::part_of;
 use grammar_desugaring::Token;
 use plain::NoMemory;
 use policy_grammar::{ReadFault, parse_policies};

@@ -2,9 +2,9 @@
 use Rattle.std.specs.Prelude.{◌≡◌, ◌↔◌, ℕ, List, IsTrue, true, false, Ok, Err, refl}
 use Rattle.std.proofs.Common.{sym, ◌∙◌, subst}
 use Rattle.std.proofs.lemmas.Bool.{false≢true}
-use Rattle.validator.specs.typing.Types.{StaticType}
-use Rattle.validator.specs.typing.Environment.{Environment, ExpressionFault}
-use Rattle.validator.specs.typing.Rows.{Row, field_type_of}
+use Rattle.typing.specs.Types.{StaticType}
+use Rattle.typing.specs.Environment.{Environment, ExpressionFault}
+use Rattle.typing.specs.Rows.{Row, field_type_of}
 
 ok_not_err : {t : StaticType} {n : ExpressionFault} {r : Row} → r ≡ Ok t → r ≡ Err n → ⊥
 ok_not_err {t} {n} e f = apart (sym e ∙ f)

@@ -5,16 +5,16 @@ use Rattle.std.proofs.Common.{sym, ap, ◌∙◌, subst, inl, inr, arith}
 use Rattle.std.proofs.lemmas.List.{take_more, drop_more, take-append-drop, take_all, map-append, length-map, length-take-le}
 use Rattle.std.proofs.lemmas.List.Elements.{All-nil, All-cons, All-head, All-tail, All-append}
 use Rattle.grammar_core.specs.declared.expr.Expr.{Expr}
-use Rattle.type_checker.specs.policy_grammar.declared.policy.Policy.{Policy}
-use Rattle.type_checker.specs.policy_grammar.PolicyExpression.{expression_of}
+use Rattle.policy_grammar.specs.declared.policy.Policy.{Policy}
+use Rattle.policy_grammar.specs.PolicyExpression.{expression_of}
 use Rattle.type_checker.specs.schema.declared.parts.Environment as given
 use Rattle.type_checker.specs.schema.Schemas.{StatedSchema}
 use Rattle.type_checker.specs.schema.Views.{environment_view}
 use Rattle.type_checker.specs.FromSchemas.{typing_environment_of}
-use Rattle.validator.specs.typing.Types.{StaticType}
-use Rattle.validator.specs.typing.Environment.{Environment, ExpressionFault}
-use Rattle.validator.specs.typing.Faults.{Faults}
-use Rattle.validator.specs.typing.Laws.{HaveOneJudgement}
+use Rattle.typing.specs.Types.{StaticType}
+use Rattle.typing.specs.Environment.{Environment, ExpressionFault}
+use Rattle.typing.specs.Faults.{Faults}
+use Rattle.typing.specs.Laws.{HaveOneJudgement}
 use Rattle.validator.specs.Passing
 use Rattle.validator.specs.Passing.{environments_of, HasType, HasBooleanType, FirstFaulty}
 use Rattle.validator.proofs.OutcomeLemmas.{policy_is_test, typed_or_faulty}

@@ -4,10 +4,10 @@ use Rattle.std.proofs.Common.{sym, ap, ◌∙◌, subst}
 use Rattle.std.proofs.lemmas.List.{map-append}
 use Rattle.grammar_core.specs.declared.expr.Expr.{Expr}
 use Rattle.validator.specs.declared.fault.TypeFault.{TypeFault}
-use Rattle.validator.specs.typing.Types as types
-use Rattle.validator.specs.typing.Environment.{Environment}
-use Rattle.validator.specs.typing.Typing.{Types}
-use Rattle.validator.specs.typing.Faults.{Faults}
+use Rattle.typing.specs.Types as types
+use Rattle.typing.specs.Environment.{Environment}
+use Rattle.typing.specs.Typing.{Types}
+use Rattle.typing.specs.Faults.{Faults}
 use Rattle.validator.specs.Faults.{of_typing, of_types}
 use Rattle.validator.specs.Passing.{HasType}
 use Rattle.type_checker.specs.Views.{static_view, boolean_view, fault_view}

@@ -15,7 +15,7 @@ use Rattle.type_checker.specs.declared.static_type.BooleanType.TheVariants as tr
 use Rattle.type_checker.specs.declared.static_type.Leaf.{Leaf}
 use Rattle.type_checker.specs.declared.static_type.Leaf.TheVariants as leaf
 use Rattle.type_checker.specs.Views.{boolean_view, leaf_view, static_view, static_step, built_fields}
-use Rattle.validator.specs.typing.Types as types
+use Rattle.typing.specs.Types as types
 use Rattle.fault_places.specs.Words.{type_word, more_words, types_words, more_names, names_or}
 
 -- the word for the type t

@@ -21,7 +21,7 @@ use Rattle.grammar_policies.specs.grammar_expressions.Expressions as g
 use Rattle.grammar_policies.specs.grammar_expressions.Expressions.{expr, any_expr, is_positive, accessed}
 use Rattle.fault_places.specs.TokenCounts.{tree_count, access_tree_count, total}
 use Rattle.typing.specs.Places.{operands_of, operands_in}
-use Rattle.policy_grammar.specs.grammar_core.Operators.{method_of}
+use Rattle.grammar_core.specs.Operators.{method_of}
 use Rattle.policy_grammar.specs.grammar_desugaring.Core.{core_of, method_called}
 use Rattle.fault_places.specs.Forms.{Form, whole, left_at, member_at, access_at, argument_at, operand, operand_step}
 use Rattle.fault_places.proofs.LanguageCounts.{many_fits, or_fits}

@@ -17,8 +17,8 @@ use Rattle.type_checker.specs.declared.static_type.StaticType.TheViews as shown
 use Rattle.type_checker.specs.declared.static_type.StaticType.TheViews.{out-StaticType, roll-StaticType, roll-out-StaticType}
 use Rattle.type_checker.specs.declared.static_type.StaticType.TheFolds.{fold-roll-StaticType}
 use Rattle.type_checker.specs.declared.static_type.StaticType.{StaticType}
-use Rattle.validator.specs.typing.Types as types
-use Rattle.validator.specs.typing.Types.{FieldTypes}
+use Rattle.typing.specs.Types as types
+use Rattle.typing.specs.Types.{FieldTypes}
 use Rattle.fault_places.specs.Words.{field_names, fields_of, more_names, names_or}
 use Rattle.fault_places.proofs.Appending.{in_turn}
 use Rattle.fault_places.proofs.Listing.{leaf_is, declared_is, built_is}

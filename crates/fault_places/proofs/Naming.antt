@@ -25,7 +25,7 @@ use Rattle.grammar_core.specs.declared.expr.Expr.TheVariants as core
 use Rattle.grammar_core.specs.declared.operator.UnaryCall.{UnaryCall}
 use Rattle.grammar_policies.specs.grammar_expressions.Expressions as g
 use Rattle.grammar_policies.specs.grammar_expressions.Expressions.{expr, any_expr, is_positive, joined, is_in}
-use Rattle.policy_grammar.specs.grammar_core.Operators.{method_of}
+use Rattle.grammar_core.specs.Operators.{method_of}
 use Rattle.policy_grammar.specs.grammar_desugaring.Core.{core_of, negated, called, method_called, function, compared}
 use Rattle.policy_grammar.specs.grammar_desugaring.Meaning.{path_name, uid_of}
 use Rattle.policy_grammar.proofs.of_grammar_desugaring.Cores as cores

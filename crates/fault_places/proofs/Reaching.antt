@@ -2,8 +2,8 @@
 use Rattle.std.specs.Prelude.{◌≡◌, ℕ, List, [], ◌∷◌, ◌++◌, map, Option, refl}
 use Rattle.std.proofs.Common.{sym, ap, ◌∙◌, subst, append_assoc}
 use Rattle.grammar_core.specs.declared.expr.Expr.{Expr}
-use Rattle.validator.specs.typing.Environment.{Environment, ExpressionFault}
-use Rattle.validator.specs.typing.Faults.{Faults}
+use Rattle.typing.specs.Environment.{Environment, ExpressionFault}
+use Rattle.typing.specs.Faults.{Faults}
 use Rattle.type_checker.specs.Views.{static_view}
 use Rattle.type_checker.specs.type_capabilities.declared.capability.Capability.{Capability}
 use Rattle.type_checker.specs.declared.static_type.StaticType.{StaticType}

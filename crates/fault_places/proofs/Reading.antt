@@ -16,9 +16,9 @@ use Rattle.type_checker.specs.Views.{static_view}
 use Rattle.fault_places.specs.declared.blaming.TypeBlame.{TypeBlame}
 use Rattle.validator.specs.declared.fault.TypeFault.{TypeFault}
 use Rattle.validator.specs.declared.fault.TypeFault.TheVariants as fault
-use Rattle.validator.specs.typing.Environment as typing
-use Rattle.validator.specs.typing.Types as types
-use Rattle.validator.specs.typing.Rows.{Row, field_type_of}
+use Rattle.typing.specs.Environment as typing
+use Rattle.typing.specs.Types as types
+use Rattle.typing.specs.Rows.{Row, field_type_of}
 use Rattle.fault_places.specs.Words.{type_word, which_words, attribute_in, attribute_of, field_names, fields_of, declaration_words, declared_words, name_detail}
 use Rattle.fault_places.specs.Words.{types_words, is_missing, typing_cause, environment_words, what_words, detail_in, typing_detail}
 use Rattle.fault_places.proofs.Appending.{in_turn, nothing_more}

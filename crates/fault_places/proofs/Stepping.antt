@@ -9,13 +9,13 @@ use Rattle.grammar_core.specs.declared.expr.Expr.TheOpen.{Expr-F}
 use Rattle.grammar_core.specs.declared.expr.Expr.TheViews.{out-Expr, roll-Expr, roll-out-Expr}
 use Rattle.grammar_core.specs.declared.operator.Unary.{Unary}
 use Rattle.grammar_core.specs.Size.{height}
-use Rattle.validator.specs.typing.Types as types
-use Rattle.validator.specs.typing.Types.{false_type}
-use Rattle.validator.specs.typing.Environment.{Environment, ExpressionFault}
-use Rattle.validator.specs.typing.Gained.{CapabilityList}
-use Rattle.validator.specs.typing.Typing
-use Rattle.validator.specs.typing.Typing.{Types, TypesEach}
-use Rattle.validator.specs.typing.Faults.{Faults}
+use Rattle.typing.specs.Types as types
+use Rattle.typing.specs.Types.{false_type}
+use Rattle.typing.specs.Environment.{Environment, ExpressionFault}
+use Rattle.typing.specs.Gained.{CapabilityList}
+use Rattle.typing.specs.Typing
+use Rattle.typing.specs.Typing.{Types, TypesEach}
+use Rattle.typing.specs.Faults.{Faults}
 use Rattle.type_checker.specs.Views.{static_view, boolean_view}
 use Rattle.type_checker.specs.type_capabilities.CapabilityList.{capabilities}
 use Rattle.type_checker.specs.type_capabilities.declared.capability.Capability.{Capability}

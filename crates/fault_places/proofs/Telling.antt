@@ -2,8 +2,8 @@
 use Rattle.std.specs.Prelude.{◌≡◌, All}
 use Rattle.std.proofs.Common.{sym, subst}
 use Rattle.grammar_core.specs.declared.expr.Expr.{Expr}
-use Rattle.type_checker.specs.policy_grammar.declared.policy.Policy.{Policy}
-use Rattle.type_checker.specs.policy_grammar.PolicyExpression.{expression_of}
+use Rattle.policy_grammar.specs.declared.policy.Policy.{Policy}
+use Rattle.policy_grammar.specs.PolicyExpression.{expression_of}
 use Rattle.type_checker.specs.schema.Schemas.{StatedSchema}
 use Rattle.validator.specs.Names.{names_in}
 use Rattle.validator.specs.Unknown.{IsKnown}

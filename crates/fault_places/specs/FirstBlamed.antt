@@ -3,7 +3,7 @@
 -- Rules of this product: environments are numbered from 0, in the order in which `check` walks them.
 use Rattle.std.specs.Prelude.{ℕ, suc, List}
 use Rattle.grammar_core.specs.declared.expr.Expr.{Expr}
-use Rattle.validator.specs.typing.Environment.{Environment, ExpressionFault}
+use Rattle.typing.specs.Environment.{Environment, ExpressionFault}
 use Rattle.validator.specs.Passing.{FirstFaulty, faulty_here, faulty_later}
 use Rattle.typing.specs.BlamedExpressions.{Blame, blamed}
 

@@ -4,7 +4,7 @@
 use Rattle.std.specs.Prelude.{◌≡◌, List}
 use Rattle.grammar_core.specs.declared.expr.Expr.{Expr}
 use Rattle.type_checker.specs.schema.Schemas.{StatedSchema}
-use Rattle.validator.specs.typing.Environment.{Environment, ExpressionFault}
+use Rattle.typing.specs.Environment.{Environment, ExpressionFault}
 use Rattle.validator.specs.Faults.{of_typing}
 use Rattle.validator.specs.Passing.{environments_of, FirstFaulty}
 use Rattle.fault_places.specs.FirstBlamed.{environment_blamed, blamed_there}

@@ -3,7 +3,7 @@
 -- Source: FirstBlamed.antt.
 use Rattle.std.specs.Prelude.{◌≡◌, ℕ, List}
 use Rattle.grammar_core.specs.declared.expr.Expr.{Expr}
-use Rattle.validator.specs.typing.Environment.{Environment, ExpressionFault}
+use Rattle.typing.specs.Environment.{Environment, ExpressionFault}
 use Rattle.type_checker.specs.schema.Schemas.{StatedSchema}
 use Rattle.validator.specs.declared.fault.TypeFault.{TypeFault}
 use Rattle.validator.specs.Names.{Name}

@@ -2,8 +2,8 @@
 -- Source: docs/codes.md.
 -- Rules of this product: names are reported before types.
 use Rattle.std.specs.Prelude.{All}
-use Rattle.type_checker.specs.policy_grammar.declared.policy.Policy.{Policy}
-use Rattle.type_checker.specs.policy_grammar.PolicyExpression.{expression_of}
+use Rattle.policy_grammar.specs.declared.policy.Policy.{Policy}
+use Rattle.policy_grammar.specs.PolicyExpression.{expression_of}
 use Rattle.type_checker.specs.schema.Schemas.{StatedSchema}
 use Rattle.validator.specs.declared.fault.TypeFault.{TypeFault}
 use Rattle.validator.specs.Names.{names_of}

@@ -4,7 +4,7 @@
 -- declared ones; a typing error is reported with the first environment that has an error, and with the types there or,
 -- for error 44, whether the attribute is declared, and if not, which attributes are.
 use Rattle.std.specs.Prelude.{◌≡◌, ℕ, List, string_bytes}
-use Rattle.type_checker.specs.policy_grammar.declared.policy.Policy.{Policy}
+use Rattle.policy_grammar.specs.declared.policy.Policy.{Policy}
 use Rattle.type_checker.specs.schema.Schemas.{StatedSchema}
 use Rattle.fault_places.specs.NamesAt.{name_view}
 use Rattle.fault_places.specs.PolicyReports.{fault_of, IsBlame}

@@ -13,10 +13,10 @@ use Rattle.values.specs.declared.entity_uid.EntityUid.{EntityUid}
 use Rattle.type_checker.specs.schema.Schemas.{EnvironmentOf, StatedSchema}
 use Rattle.type_checker.specs.FromSchemas.{typing_environment_of}
 use Rattle.type_checker.specs.Views.{static_view}
-use Rattle.validator.specs.typing.Types as types
-use Rattle.validator.specs.typing.Types.{StaticType, FieldTypes}
-use Rattle.validator.specs.typing.Environment.{Environment}
-use Rattle.validator.specs.typing.Rows.{field_type_of}
+use Rattle.typing.specs.Types as types
+use Rattle.typing.specs.Types.{StaticType, FieldTypes}
+use Rattle.typing.specs.Environment.{Environment}
+use Rattle.typing.specs.Rows.{field_type_of}
 use Rattle.validator.specs.Names as names
 use Rattle.validator.specs.declared.fault.TypeFault.{TypeFault}
 use Rattle.validator.specs.declared.fault.TypeFault.TheVariants as fault

@@ -3,8 +3,8 @@ ghost use Rattle.std.specs.Prelude.{◌≡◌, ◌↔◌, IsTrue, IfOk, true, Ok
 ghost use Rattle.type_checker.specs.schema.Views.{schema_view, environment_view};
 ghost use Rattle.type_checker.specs.FromSchemas.{typing_environment_of};
 ghost use Rattle.type_checker.specs.Views.{static_view};
-ghost use Rattle.validator.specs.typing.Types as types;
-ghost use Rattle.validator.specs.typing.Rows.{field_type_of};
+ghost use Rattle.typing.specs.Types as types;
+ghost use Rattle.typing.specs.Rows.{field_type_of};
 
 use plain::NoMemory;
 use type_checker::{
@@ -32,7 +32,7 @@ pub fn is_declared<'a>(
     let env = TypingEnvironment::new(schema, environment);
     match field_type(env, true, name, owner) {
         Ok(kind) => {
-            drop_type(Ok(kind));
+            drop_type(kind);
             Ok(true)
         }
         Err(fault) => match fault {

@@ -1,6 +1,6 @@
 //! The first environment in which a policy has an error, and what the error blames there.
 ghost use Rattle.std.specs.Prelude.{◌≡◌, IfOk, MatchOption, All};
-ghost use Rattle.type_checker.specs.policy_grammar.PolicyExpression.{expression_of};
+ghost use Rattle.policy_grammar.specs.PolicyExpression.{expression_of};
 ghost use Rattle.type_checker.specs.schema.Views.{schema_view};
 ghost use Rattle.type_checker.specs.Views.{typing_environment};
 ghost use Rattle.validator.specs.Passing.{environments_of, HasBooleanType};

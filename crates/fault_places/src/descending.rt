@@ -1,7 +1,7 @@
 //! The path to the expression that a type error blames.
 ghost use Rattle.std.specs.Prelude.{◌≡◌, [], map, IfOk};
-ghost use Rattle.validator.specs.typing.Environment as typing;
-ghost use Rattle.validator.specs.typing.Faults.{Faults};
+ghost use Rattle.typing.specs.Environment as typing;
+ghost use Rattle.typing.specs.Faults.{Faults};
 ghost use Rattle.type_checker.specs.Views.{typing_environment, static_view};
 ghost use Rattle.typing.specs.BlamedExpressions.{blamed};
 

@@ -9,7 +9,7 @@ ghost use Rattle.fault_places.specs.Words.{declared_words, name_detail, typing_d
 use crate::attributes::is_declared;
 use crate::blaming::TypeBlame;
 use crate::causes::typing_cause;
-use crate::wording::{push_environment, push_list, type_word};
+use crate::wording::{push_environment, push_list, push_two, type_word};
 use plain::NoMemory;
 use type_checker::{Environment, Leaf, Schema, StaticType, attributes_of};
 use validator::TypeFault;
@@ -62,9 +62,9 @@ fn push_declared<'a>(
         Some(owner) => {
             let declared = is_declared(schema, environment, owner, name)?;
             if declared {
-                write!(out, ": optional in {}", type_word(owner))
+                push_two(out, ": optional in ", type_word(owner))
             } else {
-                write!(out, ": not declared in {}", type_word(owner))?;
+                push_two(out, ": not declared in ", type_word(owner))?;
                 push_attributes(out, schema, owner)
             }
         }

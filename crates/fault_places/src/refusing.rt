@@ -1,6 +1,6 @@
 //! The report on a policy that does not pass validation.
 ghost use Rattle.std.specs.Prelude.{◌≡◌, IfOk, MatchOption};
-ghost use Rattle.type_checker.specs.policy_grammar.PolicyExpression.{expression_of};
+ghost use Rattle.policy_grammar.specs.PolicyExpression.{expression_of};
 ghost use Rattle.type_checker.specs.schema.Views.{schema_view};
 ghost use Rattle.validator.specs.Passing.{Passes};
 ghost use Rattle.fault_places.specs.PolicyReports.{IsBlame};

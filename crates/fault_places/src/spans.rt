@@ -1,6 +1,6 @@
 //! Spans of a text, in bytes.
 ghost use Rattle.std.specs.Prelude.{◌≡◌, if◌then◌else◌, IfOk, option_map, option_and_then};
-ghost use Rattle.grammar_policies.specs.grammar_tokens.Lexing.{IsLexed};
+ghost use Rattle.grammar_trees.specs.grammar_tokens.Lexing.{IsLexed};
 ghost use Rattle.fault_places.specs.Spans as spec;
 ghost use Rattle.fault_places.specs.Names as names;
 ghost use Rattle.fault_places.specs.Places as places;

@@ -11,6 +11,14 @@ use schema_types::CedarType;
 use type_checker::{Environment, Leaf, StaticType};
 use values::EntityUid;
 
+/// Appends two texts, one after the other.
+pub(crate) fn push_two(out: &mut String, first: &str, second: &str) -> Result<(), NoMemory>
+    ensures { OnOk result (string_bytes out.new ≡ string_bytes out.old ++ (first.now ++ second.now)) }
+{
+    out.push_str(first)?;
+    out.push_str(second)
+}
+
 /// An item of a list in a report.
 pub(crate) trait Listed {
     /// The words for the item.
@@ -26,7 +34,8 @@ impl Listed for EntityUid {
 
     /// Appends the uid in the form `T::"id"` of policies, but without escapes in the id.
     fn push_to(&self, out: &mut String) -> Result<(), NoMemory> {
-        write!(out, "{}::\"{}\"", self.type_name.as_str(), self.id.as_str())
+        push_two(out, self.type_name.as_str(), "::\"")?;
+        push_two(out, self.id.as_str(), "\"")
     }
 }
 
@@ -113,7 +122,8 @@ pub(crate) fn push_environment(out: &mut String, environment: &Environment) -> R
         ≡ string_bytes out.old ++ environment_words (environment_view environment.now)) }
 {
     let place = &environment.place;
-    write!(out, "in {}, ", place.principal.as_str())?;
+    push_two(out, "in ", place.principal.as_str())?;
+    out.push_str(", ")?;
     place.action.push_to(out)?;
-    write!(out, ", {}", place.resource.as_str())
+    push_two(out, ", ", place.resource.as_str())
 }

@@ -1,5 +1,5 @@
--- Defines what must be distinct: the annotation keys of a policy (by Annotations.antt) and the names of the policies in
--- a file.
+-- Defines the names of the policies in a file, which must be distinct; passes on the annotation keys of
+-- Annotations.antt, which must be distinct in a policy.
 -- Source: Cedar reference guide 4.0, "Annotations": a key occurs once in a policy.
 -- Rules of this product: a name occurs once in a file.
 use Rattle.std.specs.Prelude.{ℕ, List, [], ◌∷◌, map}

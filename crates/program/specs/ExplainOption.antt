@@ -10,7 +10,7 @@ use Rattle.std.specs.Prelude.{Option, None, Some, unwrap_or}
 use Rattle.explanations.specs.CodeText.{Texts, code_text, words_on}
 use Rattle.explanations.specs.Codes.{is_code}
 use Rattle.explanations.specs.Files.{File, Files}
-use Rattle.explanations.specs.Parts.{IsMessageExplained}
+use Rattle.explanations.specs.TextParts.{IsMessageExplained}
 use Rattle.explanations.specs.FileExplanations.{IsExplained}
 use Rattle.program_drills.specs.http_service.answer_lines.declared.refusal.Refusal.{Refusal}
 use Rattle.program_drills.specs.http_service.answer_lines.Refusals.{no_memory}

@@ -2,12 +2,11 @@
 //! types again.
 ghost use Rattle.std.specs.Prelude.{◌≡◌, take};
 
-use crate::fault::ExpressionFault;
 use crate::static_type::StaticType;
 
-/// Drops the result of a function that returns a type, such as [`field_type`](crate::field_type).
-pub fn drop_type(typed: Result<StaticType<'_>, ExpressionFault>) {
-    drop(typed);
+/// Drops a type.
+pub fn drop_type(kind: StaticType<'_>) {
+    drop(kind);
 }
 
 /// Drops a list of types.

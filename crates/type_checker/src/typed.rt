@@ -26,7 +26,7 @@ impl<'a> Typed<'a> {
     ///
     /// # Errors
     ///
-    /// - `NoMemory`: an allocation failed. The type may then be appended.
+    /// - `NoMemory`: an allocation failed. `types` may then already have the type.
     pub fn add_to(
         self,
         types: &mut Vec<StaticType<'a>>,

@@ -3,9 +3,9 @@
 use Rattle.std.specs.Prelude.{ℕ, Bool, if◌then◌else◌, List, decimal}
 use Rattle.explanations.specs.declared.segments.Segment.{Segment}
 use Rattle.explanations.specs.declared.segments.Segment.TheVariants.{Text, Number, Shown, Blanks, Repeated}
-use Rattle.explanations.specs.declared.segments.Segment.TheVariants.{Index, Part}
+use Rattle.explanations.specs.declared.segments.Segment.TheVariants.{Index, Framed}
 use Rattle.explanations.specs.Excerpt.{shown_char, blank_char, shown, blanks, repeated}
-use Rattle.explanations.specs.ExplanationText.{part, index_part}
+use Rattle.explanations.specs.ExplanationText.{framed, index_words}
 
 -- `drawn_char are_blank c` is the character that is written for `c`: a blank if `are_blank`, else `c` as it is shown.
 abbrev pub drawn_char : Bool → ℕ → ℕ
@@ -18,5 +18,5 @@ bytes_of (Number number) = decimal number
 bytes_of (Shown text skipped count) = shown text.now skipped count
 bytes_of (Blanks text skipped count) = blanks text.now skipped count
 bytes_of (Repeated c count) = repeated c count
-bytes_of (Index index) = index_part index
-bytes_of (Part before text most after) = part before.now text.now most after.now
+bytes_of (Index index) = index_words index
+bytes_of (Framed before text most after) = framed before.now text.now most after.now

@@ -2,9 +2,9 @@
 use Rattle.std.specs.Prelude.{◌≡◌, ℕ, [], Option, MatchOption}
 use Rattle.grammar_core.specs.declared.expr.Expr.{Expr}
 use Rattle.validator.specs.declared.fault.TypeFault.{TypeFault}
-use Rattle.validator.specs.typing.Types.{StaticType}
-use Rattle.validator.specs.typing.Environment.{Environment, ExpressionFault}
-use Rattle.validator.specs.typing.Faults.{Faults}
+use Rattle.typing.specs.Types.{StaticType}
+use Rattle.typing.specs.Environment.{Environment, ExpressionFault}
+use Rattle.typing.specs.Faults.{Faults}
 use Rattle.validator.specs.Faults.{of_typing}
 use Rattle.validator.specs.Passing.{HasType}
 use Rattle.typing.specs.BlamedExpressions.{blamed}

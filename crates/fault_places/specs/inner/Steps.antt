@@ -3,10 +3,10 @@ use Rattle.std.specs.Prelude.{◌≡◌, ℕ, zero, suc, ◌+◌, ◌<◌, List,
 use Rattle.grammar_core.specs.Size.{height}
 use Rattle.grammar_core.specs.declared.expr.Expr.{Expr}
 use Rattle.grammar_core.specs.declared.expr.Expr.TheOpen.{Expr-F}
-use Rattle.validator.specs.typing.Types.{IsBoolean}
-use Rattle.validator.specs.typing.Environment.{Environment, ExpressionFault}
-use Rattle.validator.specs.typing.Typing.{Types}
-use Rattle.validator.specs.typing.Faults.{Faults}
+use Rattle.typing.specs.Types.{IsBoolean}
+use Rattle.typing.specs.Environment.{Environment, ExpressionFault}
+use Rattle.typing.specs.Typing.{Types}
+use Rattle.typing.specs.Faults.{Faults}
 use Rattle.type_checker.specs.Views.{static_view, boolean_view}
 use Rattle.type_checker.specs.type_capabilities.CapabilityList.{capabilities}
 use Rattle.type_checker.specs.type_capabilities.declared.capability.Capability.{Capability}

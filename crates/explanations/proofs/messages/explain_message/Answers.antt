@@ -1,5 +1,5 @@
 use Rattle.std.proofs.Common.{◌∙◌, ◌++◌, ap, refl, rules, string_bytes}
-use Rattle.explanations.specs.Parts.{entry_words}
+use Rattle.explanations.specs.TextParts.{entry_words}
 use Rattle.explanations.proofs.Joining.{message_alone}
 use Rattle.explanations.proofs.messages.explain_message.Goals as goal
 

@@ -1,6 +1,6 @@
 use Rattle.std.proofs.Common.{map, take, string_bytes, option_map}
 use Rattle.schema_decisions.specs.schema.Views.{schema_view}
-use Rattle.explanations.specs.Parts.{AppendsSome}
+use Rattle.explanations.specs.TextParts.{AppendsSome}
 use Rattle.explanations.specs.Policies.{ArePoliciesExplained}
 use Rattle.explanations.proofs.policies.explain_policies.Given as goal
 

@@ -23,5 +23,5 @@ returns-in-Repeated c =
 pub returns-in-Index : goal.returns-in-Index
 returns-in-Index c = rw c.in-Index.is c.push_index.ensures
 
-pub returns-in-Part : goal.returns-in-Part
-returns-in-Part c = rw c.in-Part.is c.push_part.ensures
+pub returns-in-Framed : goal.returns-in-Framed
+returns-in-Framed c = rw c.in-Framed.is c.push_framed.ensures

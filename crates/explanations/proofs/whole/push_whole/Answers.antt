@@ -1,5 +1,5 @@
 use Rattle.std.proofs.Common.{◌≡◌, ◌∙◌, ℕ, List, [], ◌∷◌, ◌++◌, append_assoc, append-nil, ap, refl, string_bytes, length, codes}
-use Rattle.explanations.specs.ExplanationText.{says_line, detail_line, hint_line, file_line, index_part, readable, whole_text}
+use Rattle.explanations.specs.ExplanationText.{says_line, detail_line, hint_line, file_line, index_words, readable, whole_text}
 use Rattle.explanations.proofs.Appending.{on_ok}
 use Rattle.explanations.proofs.whole.push_whole.Goals as goal
 
@@ -20,6 +20,6 @@ returns c =
       record { says = says; advice = advice; words = c.says_and_advice.ensures.words; clean = c.says_and_advice.ensures.clean; is = refl },
       in_one (string_bytes c.args.out.now) (says_line finding.code says []) (file_line file finding.index) (detail_line finding.detail.now) (hint_line advice)
           (string_bytes c.push_says.new.out) (string_bytes c.push_all.new.out) (string_bytes c.push_rest.new.out) c.in_ok-push_says.ensures
-          (c.in_ok-push_all.ensures ∙ ap (λ (l : List ℕ). string_bytes c.push_says.new.out ++ l) (file_of (codes " --> ") (readable file (length file)) (index_part finding.index) (10 ∷ [])))
+          (c.in_ok-push_all.ensures ∙ ap (λ (l : List ℕ). string_bytes c.push_says.new.out ++ l) (file_of (codes " --> ") (readable file (length file)) (index_words finding.index) (10 ∷ [])))
           last,
     ))

@@ -1,8 +1,8 @@
 use Rattle.std.proofs.Common.{◌∙◌, subst, refl}
 use Rattle.type_checker.specs.Views.{static_view, fault_view, typing_environment}
 use Rattle.type_checker.specs.type_capabilities.CapabilityList.{capabilities}
-use Rattle.validator.specs.typing.Typing.{Types}
-use Rattle.validator.specs.typing.Faults.{Faults}
+use Rattle.typing.specs.Typing.{Types}
+use Rattle.typing.specs.Faults.{Faults}
 use Rattle.fault_places.proofs.FoundBlame.{told_as}
 use Rattle.fault_places.proofs.judging.judge.Goals as goal
 

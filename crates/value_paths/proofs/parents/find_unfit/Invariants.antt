@@ -1,9 +1,0 @@
-use Rattle.std.proofs.Common.{◌≡◌, drop}
-use Rattle.serde_json.specs.View.{items_view}
-use Rattle.entities.specs.schema.Views.{schema_view}
-use Rattle.value_paths.specs.inner.FoundParts.{unfit_path}
-use Rattle.value_paths.proofs.parents.find_unfit.Given as goal
-
-abbrev pub invariant-loop-index : goal.invariant-loop-index
-invariant-loop-index l =
-    unfit_path (schema_view l.schema) l.uid 0 (items_view l.parents) ≡ unfit_path (schema_view l.schema) l.uid l.index (items_view (drop l.index l.parents))

@@ -1,4 +1,0 @@
-pub mod FoundPaths
-pub mod FoundParts
-pub mod FoundNames
-pub mod Placing
