@@ -21,6 +21,7 @@
 - If a program's stdout has lines of a case and its outcome, stdin has these lines without the outcomes.
 - Each name of docs/where.md exists (tools/where_it_stands.py).
 - The table of docs/performance.md has the rows of `bench/measure.py page`, in its order.
+- Each command of a document that only reads the sources, as `tools/definitions.py reading ..`, ends with status 0.
 Standard library alone.
 """
 import argparse
@@ -40,6 +41,9 @@ TESTS = re.compile(r"_tests$|^rows$|^site_rows$")
 BESIDE_CODES = {"200", "409", "422", "503"}
 INSIDE = re.compile(r"(?<![\w/.])((?:specs|proofs|src|must-fail|mutants)/[\w./-]*\w)(?![\w*])")
 NAMED = re.compile(r"(?<![\w/.])((?:docs|bench|tools|examples|rows)/[\w./-]*\w|crates/\w+/(?:src|specs|proofs)/[\w/]+\.\w+)")
+
+# commands that only read the sources, in seconds
+READERS = re.compile(r"`(tools/(?:definitions|surface|where_it_stands)\.py[^`]*|tools/made_docs\.py --[^`]*)`")
 
 # of which docs/definitions.md has some 16,000, docs/surface.md 8,000
 MOST_BYTES = 150_000
@@ -238,10 +242,20 @@ def about_performance():
         yield ran.stdout.strip() or f"bench/measure.py page --check: expected status 0, got {ran.returncode}: {ran.stderr.strip()}"
 
 
+def about_commands():
+    for name in documents():
+        # a word in capitals stands for any name
+        for words in sorted({it.group(1) for it in re.finditer(READERS, " ".join(text_of(name).split()))}):
+            if not re.search(r"\b[A-Z]{2,}\b", words):
+                ran = subprocess.run([f"{TOP}/{words.split()[0]}", *words.split()[1:]], capture_output=True, text=True, check=False)
+                if ran.returncode != 0:
+                    yield f"{name}: expected status 0 of `{words}`, got {ran.returncode}: {(ran.stderr or ran.stdout).strip()[:200]}"
+
+
 def main():
     argparse.ArgumentParser(description=__doc__, formatter_class=argparse.RawDescriptionHelpFormatter).parse_args()
     found = [*about_layers(), *about_crates(), *about_paths(), *about_numbers(), *about_lines(), *about_long_lines(), *about_codes(), *about_code_table()]
-    found += [*about_cases(), *made_docs.stale(), *about_reading(), *where_it_stands.faults(), *about_performance()]
+    found += [*about_cases(), *made_docs.stale(), *about_reading(), *where_it_stands.faults(), *about_performance(), *about_commands()]
     print("\n".join(found) or "documents: all checks passed")
     return 1 if found else 0
 

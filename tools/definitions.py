@@ -507,12 +507,27 @@ def run_public(words):
     return status
 
 
+def lost_start(walk, start):
+    """Returns why a walk cannot start at these words (a crate, a module and names), or None if it can."""
+    if len(start) < 3:
+        return f"expected a crate, a module and a name, got {' '.join(start)}"
+    crate, module, *names = start
+    found = walk.module(crate, module) if os.path.isdir(f"{TOP}/crates/{crate}") else None
+    if found is None:
+        return f"expected a module of a crate, got {module} of {crate}"
+    lost = [it for it in names if it not in found.items and it not in found.imports]
+    return f"expected names of {os.path.relpath(found.path, TOP)}, got {', '.join(lost)}" if lost else None
+
+
 def run_reading(words):
     walk = Walk()
-    if words.start:
-        for name in words.start[2:]:
-            walk.visit(words.start[0], words.start[1], name)
-    else:
+    why = lost_start(walk, words.start) if words.start else None
+    if why:
+        print(f"tools/definitions.py: {why}", file=sys.stderr)
+        return 2
+    for name in words.start[2:]:
+        walk.visit(words.start[0], words.start[1], name)
+    if not words.start:
         whole(walk)
     print("\n".join(listed(walk, words.names)))
     return 0
