@@ -46,7 +46,7 @@ NAMED = re.compile(r"(?<![\w/.])((?:docs|bench|tools|examples|rows)/[\w./-]*\w|c
 READERS = re.compile(r"`(tools/(?:definitions|surface|where_it_stands)\.py[^`]*|tools/made_docs\.py --[^`]*)`")
 
 # of which docs/definitions.md has some 16,000, docs/surface.md 8,000
-MOST_BYTES = 150_000
+MOST_BYTES = 165_000
 # between a case and its outcome
 ARROW = "  ->  "
 
