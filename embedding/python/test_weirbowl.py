@@ -5,7 +5,7 @@ import pickle
 import threading
 import unittest
 
-from weirbowl import Error, PolicyError, Site, Stamp, Verdict, check, decide, decide_under, request
+from weirbowl import Answer, ErringPolicy, Error, Site, Stamp, Verdict, check, decide, decide_under, request
 
 SCHEMA = {"": {"entityTypes": {"User": {"memberOfTypes": ["Team"]}, "Team": {}, "Photo": {}},
                "actions": {"view": {"appliesTo": {"principalTypes": ["User"], "resourceTypes": ["Photo"]}}}}}
@@ -96,6 +96,13 @@ class Sites(unittest.TestCase):
                     make(site)
 
 
+class Answers(unittest.TestCase):
+    def test_denial_is_false(self):
+        self.assertTrue(Answer("Allow", ["p"], [], []))
+        for other in ("Deny", "allow", ""):
+            self.assertFalse(Answer(other, ["p"], [], []))
+
+
 class Texts(unittest.TestCase):
     def test_decides(self):
         self.assertTrue(decide(ALL, [], ANN_VIEWS).allowed)
@@ -103,7 +110,7 @@ class Texts(unittest.TestCase):
         self.assertFalse(decide_under(SCHEMA, TEAM, [], ANN_VIEWS).allowed)
         answer = decide("permit(principal, action, resource) when { principal.age > 3 };", [], ANN_VIEWS)
         self.assertEqual([it.policy for it in answer.errors], ["policy0"])
-        self.assertIsInstance(answer.errors[0], PolicyError)
+        self.assertIsInstance(answer.errors[0], ErringPolicy)
         for call, code in ((lambda: decide("permit", [], ANN_VIEWS), 11), (lambda: decide_under("{", TEAM, [], ANN_VIEWS), 20)):
             with self.assertRaises(Error) as caught:
                 call()

@@ -20,7 +20,7 @@ import os
 import threading
 from typing import Any, NamedTuple, Optional, Union
 
-__all__ = ["Answer", "Error", "Found", "PolicyError", "Put", "Site", "Stamp", "Verdict", "check", "decide", "decide_under", "request"]
+__all__ = ["Answer", "ErringPolicy", "Error", "Found", "Put", "Site", "Stamp", "Verdict", "check", "decide", "decide_under", "request"]
 
 Json = Union[bytes, str, dict, list]
 
@@ -101,7 +101,7 @@ class Error(Exception):
         return SENTENCES.get(self.code, "unknown code")
 
 
-class PolicyError(NamedTuple):
+class ErringPolicy(NamedTuple):
     """A policy whose evaluation fails, with the word of the error (docs/codes.md)."""
 
     policy: str
@@ -109,13 +109,13 @@ class PolicyError(NamedTuple):
 
 
 class Answer(NamedTuple):
-    """The answer to a request."""
+    """The answer to a request. It is true, as in `if site.authorize(..):`, only if the decision is "Allow"."""
 
     decision: str
     """"Allow" or "Deny"."""
     reason: list[str]
     """The ids of the determining policies, in ascending order."""
-    errors: list[PolicyError]
+    errors: list[ErringPolicy]
     """The policies whose evaluation fails, in ascending order of their ids."""
     cycle: list[tuple[str, str]]
     """A cycle of the entities by type and id, if there is one; the decision is then "Deny"."""
@@ -124,6 +124,9 @@ class Answer(NamedTuple):
     def allowed(self) -> bool:
         """Whether the decision is "Allow"."""
         return self.decision == "Allow"
+
+    def __bool__(self) -> bool:
+        return self.allowed
 
 
 class Stamp(NamedTuple):
@@ -254,7 +257,7 @@ def _error(status: int, body: bytes) -> Error:
 
 def _answer(body: bytes) -> Answer:
     line = json.loads(body)
-    errors = [PolicyError(it["policy"], it["error"]) for it in line["errors"]]
+    errors = [ErringPolicy(it["policy"], it["error"]) for it in line["errors"]]
     return Answer(line["decision"], line["reason"], errors, [(it["type"], it["id"]) for it in line["cycle"]])
 
 

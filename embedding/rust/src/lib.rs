@@ -38,7 +38,7 @@ mod replies;
 use calls::*;
 pub use error::Error;
 use json::Json;
-pub use replies::{request, Answer, Decision, Found, PolicyError, Put, Stamp, Uid, Verdict};
+pub use replies::{request, Answer, Decision, ErringPolicy, Found, Put, Stamp, Uid, Verdict};
 
 /// The bytes of a new site's memory for replies; it grows to the longest reply.
 const ROOM: usize = 1024;

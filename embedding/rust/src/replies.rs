@@ -3,6 +3,7 @@
 use crate::json::{quote, Json};
 
 /// Whether a request is allowed.
+#[must_use]
 #[derive(Debug, Clone, Copy, PartialEq, Eq)]
 pub enum Decision {
     /// A `permit` is satisfied, and no `forbid` is.
@@ -53,7 +54,7 @@ pub fn request(principal: &Uid, action: &Uid, resource: &Uid) -> String {
 
 /// A policy whose evaluation fails, and so has no effect on the decision.
 #[derive(Debug, Clone, PartialEq, Eq)]
-pub struct PolicyError {
+pub struct ErringPolicy {
     /// The id of the policy.
     pub policy: String,
     /// The word of the error, by docs/codes.md.
@@ -61,6 +62,7 @@ pub struct PolicyError {
 }
 
 /// The answer to a request.
+#[must_use]
 #[derive(Debug, Clone, PartialEq, Eq)]
 pub struct Answer {
     /// The decision.
@@ -68,7 +70,7 @@ pub struct Answer {
     /// The ids of the determining policies, in ascending order.
     pub reason: Vec<String>,
     /// The policies whose evaluation fails, in ascending order of their ids.
-    pub errors: Vec<PolicyError>,
+    pub errors: Vec<ErringPolicy>,
     /// A cycle of the entities, if there is one: each is a child of the next, and the last of the first. The decision is
     /// then `Deny`.
     pub cycle: Vec<Uid>,
@@ -78,7 +80,7 @@ impl Answer {
     pub(crate) fn read(line: &[u8]) -> Answer {
         let line = Json::read(line);
         let decision = if line.get("decision").text() == "Allow" { Decision::Allow } else { Decision::Deny };
-        let error = |it: &Json| PolicyError { policy: it.get("policy").text(), error: it.get("error").text() };
+        let error = |it: &Json| ErringPolicy { policy: it.get("policy").text(), error: it.get("error").text() };
         let uid = |it: &Json| Uid { type_name: it.get("type").text(), id: it.get("id").text() };
         Answer {
             decision,
