@@ -39,8 +39,9 @@ fn answer_by_policies<L: Lookup>(
     prepared: &mut PreparedRequest<'_, L>,
 ) -> Result<Answer, NoMemory>
     requires { HasNoCycle (L.parents prepared.old.0) }
-    ensures { IfOk result (λ a. IsAnswer (entities_with (L.stored prepared.old.0) (L.parents prepared.old.0))
+    ensures answer { IfOk result (λ a. IsAnswer (entities_with (L.stored prepared.old.0) (L.parents prepared.old.0))
         prepared.old.1 (named policies.now) a) }
+    ensures same { prepared.new ≡ prepared.old }
 {
     let mut tally = Tally::new(alloc);
     for (id, policy) in policies {
@@ -83,14 +84,16 @@ fn denial_if_cyclic<L: Lookup>(
 /// Otherwise like [`decide`].
 ///
 /// `prepared` is the request with this data, and has the limit on memoized entities (64 for [`decide`]). The caller may
-/// use `prepared` before this call, for example to find candidates in an index. The only error is `NoMemory`.
+/// use `prepared` before this call, for example to find candidates in an index. Afterwards, also after an error,
+/// `prepared` is the same request over the same entities. The only error is `NoMemory`.
 pub fn decide_prepared<L: Lookup>(
     alloc: Global,
     policies: &[(&str, &Policy)],
     prepared: &mut PreparedRequest<'_, L>,
 ) -> Result<Answer, NoMemory>
-    ensures { IfOk result (λ a. IsAnswer (entities_with (L.stored prepared.old.0) (L.parents prepared.old.0))
+    ensures answer { IfOk result (λ a. IsAnswer (entities_with (L.stored prepared.old.0) (L.parents prepared.old.0))
         prepared.old.1 (named policies.now) a) }
+    ensures same { prepared.new ≡ prepared.old }
 {
     match denial_if_cyclic(alloc, prepared)? {
         Some(denial) => Ok(denial),

@@ -1,5 +1,7 @@
 pub mod ArrayLemmas
+mod BareEntitiesRead
 mod BareLemmas
+mod BareAsStated
 pub mod DecidedLemmas
 pub mod FaultLemmas
 pub mod LineOrRefusal
@@ -9,6 +11,8 @@ pub mod OutcomeLemmas
 pub mod Placing
 pub mod PolicyTexts
 pub mod RequestLemmas
+pub mod StatedArrays
+pub mod StatedDecided
 pub mod StoreLemmas
 -- crates below, passed on to those above
 pub use Rattle.json_words.proofs as of_json_words

@@ -6,6 +6,9 @@ pub mod Outcomes
 pub mod Bare
 pub mod BareRequests
 pub mod BareReading
+pub mod BareEntities
+pub mod StatedDecisions
+pub mod DecisionLaws
 pub mod inner
 -- Specifications of lower crates, re-exported.
 pub use Rattle.answer_lines.specs as answer_lines

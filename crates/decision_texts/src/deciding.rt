@@ -1,5 +1,5 @@
 //! The line of the answer to three texts: policies, entities and a request.
-ghost use Rattle.std.specs.Prelude.{◌≡◌, map, string_bytes, IfOk, IfErr};
+ghost use Rattle.std.specs.Prelude.{◌≡◌, map, string_bytes, IfOk, IfErr, MatchResult};
 ghost use Rattle.plain.specs.AllocationErrors.{OrNoMemory};
 ghost use Rattle.answer_lines.specs.authoriser.Answers.{IsAnswer};
 ghost use Rattle.answer_lines.specs.authoriser.Views.{named};
@@ -8,9 +8,12 @@ ghost use Rattle.decision_texts.specs.BareReading.{bare_reading};
 ghost use Rattle.decision_texts.specs.Requests.{IsRequestRefused};
 ghost use Rattle.decision_texts.specs.Decisions.{named_policies, IsInOrder, IsAnswerTo, IsRequestAnswered};
 ghost use Rattle.decision_texts.specs.Decisions.{AreInputsRejected, IsDecided, IsDecisionRefused};
+ghost use Rattle.decision_texts.specs.StatedDecisions.{DescribesDecision, RejectsDecision};
+ghost use Rattle.decision_texts.specs.DecisionLaws.{bare_setting};
 ghost use Rattle.decision_texts.specs.inner.Stores.{entity_data_stored, IsLineIn, IsLineTo};
 
 use crate::entity_array::read_entities;
+use crate::laws::decisions_are_as_stated;
 use crate::no_schema::NoSchema;
 use crate::policies::admitted_policies;
 use crate::request_reading::request_in;
@@ -185,6 +188,10 @@ pub fn decide_texts(
         (λ line. IsDecided bare_reading policies.now entities.now request.now line.items) }
     ensures refused { IfErr result
         (OrNoMemory no_memory (IsDecisionRefused bare_reading policies.now entities.now request.now)) }
+    ensures stated { MatchResult result
+        (λ line. DescribesDecision bare_setting policies.now entities.now request.now line.items)
+        (OrNoMemory no_memory (RejectsDecision bare_setting policies.now entities.now request.now)) }
 {
+    decisions_are_as_stated();
     decide_in(alloc, &NoSchema, policies, entities, request)
 }

@@ -1,6 +1,7 @@
-//! The theorem about decisions without a schema. The function is a no-op.
+//! Theorems about decisions without a schema. The functions are no-ops.
 ghost use Rattle.decision_texts.specs.BareReading.{bare_reading};
 ghost use Rattle.decision_texts.specs.Outcomes.{OneLine, NotBoth, OneRefusal, LineOrRefusal, ListsOfLinesAscend};
+ghost use Rattle.decision_texts.specs.DecisionLaws.{DecisionsAreAsStated};
 
 use answer_lines::{
     answers_are_lawful, file_names_differ, names_read_back, texts_have_one_reading,
@@ -21,4 +22,14 @@ pub fn texts_have_one_outcome()
     file_names_differ();
     texts_have_one_reading();
     answers_are_lawful();
+}
+
+/// Proves that, without a schema, three texts have the outcome that relations on JSON state, item by item. No-op.
+///
+/// A line is that of Cedar's answer over the entities that the items of the array describe. An error is the first, in
+/// the order of [`crate::decide_texts`]; that of an item is at the item's index.
+pub fn decisions_are_as_stated()
+    ensures { DecisionsAreAsStated }
+{
+    names_read_back();
 }

@@ -18,6 +18,6 @@ pub use answer_lines::{
 pub use deciding::{decide_in, decide_texts};
 pub use entity_array::check_entities;
 pub use json_words::{ArrayMembers, Member, Scratch, members_of};
-pub use laws::texts_have_one_outcome;
+pub use laws::{decisions_are_as_stated, texts_have_one_outcome};
 pub use policies::policies_of_file;
 pub use setting::Setting;

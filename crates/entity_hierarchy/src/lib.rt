@@ -16,8 +16,9 @@ pub use authoriser::{
 };
 pub use entities::{
     Entity, EntityFault, EntitySource, EntityStore, Schema, bytes_have_one_outcome, canonical_text,
-    declarations_are_read_as_stated, entities_read_back, read_entity, read_request,
-    requests_have_one_outcome, stated_schemas_are_well_formed,
+    declarations_are_read_as_stated, entities_are_read_as_stated, entities_read_back, read_entity,
+    read_request, requests_are_read_as_stated, requests_have_one_outcome,
+    stated_schemas_are_well_formed,
 };
 pub use laws::{actions_may_be_closed, entities_are_no_actions, reach_decides};
 pub use world::{Entities, entity_data_under};

@@ -3,6 +3,7 @@ pub mod TellingLemmas
 pub mod CheckOutcomeLemmas
 pub mod CheckLemmas
 pub mod OutcomeLemmas
+mod StatedLemmas
 pub mod UnderSchemaLemmas
 -- Lemmas of lower crates, re-exported.
 pub use Rattle.decision_texts.proofs as of_decision_texts

@@ -8,6 +8,7 @@ pub mod Policies
 pub mod UnderSchema
 pub mod Decisions
 pub mod Outcomes
+pub mod StatedDecisions
 -- Specifications of lower crates, re-exported.
 pub use Rattle.decision_texts.specs as decision_texts
 pub use Rattle.decision_texts.specs.answer_lines

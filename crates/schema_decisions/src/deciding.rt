@@ -1,9 +1,11 @@
 //! The answer to four texts: a schema, policies, entities and a request.
-ghost use Rattle.std.specs.Prelude.{IfOk, IfErr};
+ghost use Rattle.std.specs.Prelude.{IfOk, IfErr, MatchResult};
 ghost use Rattle.plain.specs.AllocationErrors.{OrNoMemory};
 ghost use Rattle.decision_texts.specs.answer_lines.Refusals.{no_memory};
 ghost use Rattle.schema_decisions.specs.Decisions.{IsDecided, IsSchemaDecisionRefused};
+ghost use Rattle.schema_decisions.specs.StatedDecisions.{DescribesSchemaDecision, RejectsSchemaDecision};
 
+use crate::laws::decisions_are_as_stated;
 use crate::reading::schema_in;
 use crate::under_schema::UnderSchema;
 use decision_texts::{Refusal, decide_in};
@@ -38,7 +40,11 @@ pub fn decide_under(
     ensures decided { IfOk result (λ line. IsDecided schema.now policies.now entities.now request.now line.items) }
     ensures refused { IfErr result
         (OrNoMemory no_memory (IsSchemaDecisionRefused schema.now policies.now entities.now request.now)) }
+    ensures stated { MatchResult result
+        (λ line. DescribesSchemaDecision schema.now policies.now entities.now request.now line.items)
+        (OrNoMemory no_memory (RejectsSchemaDecision schema.now policies.now entities.now request.now)) }
 {
+    decisions_are_as_stated();
     let schema = schema_in(alloc, schema)?;
     let setting = UnderSchema { schema: &schema };
     decide_in(alloc, &setting, policies, entities, request)

@@ -1,10 +1,12 @@
-//! Theorems about the decision of four texts. The function is a no-op.
+//! Theorems about the decision of four texts. The functions are no-ops.
 ghost use Rattle.schema_decisions.specs.Outcomes.{OneLine, NotBoth, OneRefusal, LineOrRefusal};
 ghost use Rattle.schema_decisions.specs.Outcomes.{ListsOfLinesAscend, MemberOfDecidesAlike};
+ghost use Rattle.schema_decisions.specs.StatedDecisions.{DecisionsAreAsStated};
 
 use entity_hierarchy::{
-    actions_may_be_closed, answers_are_lawful, bytes_have_one_outcome, file_names_differ,
-    requests_have_one_outcome, texts_have_one_reading,
+    actions_may_be_closed, answers_are_lawful, bytes_have_one_outcome, entities_are_read_as_stated,
+    file_names_differ, requests_are_read_as_stated, requests_have_one_outcome,
+    texts_have_one_reading,
 };
 use validator::policies_have_one_outcome;
 
@@ -28,4 +30,16 @@ pub fn texts_have_one_outcome()
     requests_have_one_outcome();
     actions_may_be_closed();
     answers_are_lawful();
+}
+
+/// Proves that the texts of a schema, policies, entities and a request have the outcome that relations on JSON state,
+/// item by item. No-op.
+///
+/// A line is that of Cedar's answer over the entities that the items of the array describe under the schema. An error
+/// is the first, in the order of [`crate::decide_under`]; that of an item is at the item's index.
+pub fn decisions_are_as_stated()
+    ensures { DecisionsAreAsStated }
+{
+    entities_are_read_as_stated();
+    requests_are_read_as_stated();
 }

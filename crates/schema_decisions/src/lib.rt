@@ -22,7 +22,7 @@ pub use decision_texts::{
     decide_texts, members_of, policies_of_file, read_uid,
 };
 pub use dropping::{drop_policies, drop_schema};
-pub use laws::texts_have_one_outcome;
+pub use laws::{decisions_are_as_stated, texts_have_one_outcome};
 pub use reading::schema_in;
 pub use under_schema::UnderSchema;
 pub use validator::Schema;

@@ -12,6 +12,7 @@ mod Ranges
 mod SummariesRead
 mod TextsRead
 mod MessagesRead
+mod ReadBackLemmas
 mod SummaryStated
 -- Lemmas of lower crates, re-exported.
 pub use Rattle.validator.proofs.of_grammar_core

@@ -63,7 +63,7 @@ module _ {P E : Type 0} (Policies : List ℕ → List ℕ → P → Type 0) (R S
   updates_as [] h = tt
   updates_as (u ∷ us) h = (update_as u h.0, updates_as us h.1)
 
-  readable_as : (n : Name) (b : Option (List ℕ)) → IsReadable Policies R n b → IsReadable Policies S n b
+  pub readable_as : (n : Name) (b : Option (List ℕ)) → IsReadable Policies R n b → IsReadable Policies S n b
   readable_as (name.Policy id) b h = h
   readable_as (name.Entity uid) None h = tt
   readable_as (name.Entity uid) (Some t) h = (h.0, f uid t h.0 h.1)

@@ -5,6 +5,7 @@ pub mod StatedSummaries
 pub mod StatedTexts
 pub mod StatedMessages
 pub mod ParsingLaws
+pub mod ReadBack
 pub mod Messages
 pub mod Texts
 -- Specifications of lower crates, re-exported.

@@ -13,7 +13,7 @@ pub use as_stated::{
     entity_texts_are_read_as_stated, messages_are_read_as_stated, summaries_are_read_as_stated,
     updates_are_read_as_stated,
 };
-pub use laws::{canonical_texts_are_read, stored_texts_have_one_reading};
+pub use laws::{canonical_texts_are_read, states_read_back, stored_texts_have_one_reading};
 pub use message_format::{
     MessageFault, StampedStore, Summary, Update, messages_have_one_outcome, messages_read_back,
     names_read_back, read_message, summaries_read_back, updates_have_one_store,

@@ -24,8 +24,8 @@ loop-id-preserved g c =
           c.loop-id-test.true c.loop-id-item.is outcome c.in_ok-note.ensures c.loop-id.invariant.policy_outcomes;
     }
 
-pub returns : goal.returns
-returns g c =
+pub returns-clause-answer : goal.returns-clause-answer
+returns-clause-answer g c =
     let k = c.args.prepared.now in
     let W = entities_with (g.L.Lookup.stored k.0) (g.L.Ancestry.parents k.0) in
     let ps = named c.args.policies.now in

@@ -23,4 +23,4 @@ returns c =
     let rise = subst (λ (xs : List NamedPolicy). Ascend xs) (sym lent) c.in_ok-policies.ensures.ascending in
     over_candidates c.decide_prepared.result (world_stored s) (reaches (world_stored s).parents (uids_stored s)) (stored_decides s)
     c.candidates_suffice.ensures c.args.request.now s.kept ps in_order among rise
-    (subst (λ (k : StoreView × Request). IfOk c.decide_prepared.result (IsAnswer (world_stored k.0) k.1 ps)) c.in_ok-prepared.ensures c.decide_prepared.ensures)
+    (subst (λ (k : StoreView × Request). IfOk c.decide_prepared.result (IsAnswer (world_stored k.0) k.1 ps)) c.in_ok-prepared.ensures c.decide_prepared.ensures.answer)
