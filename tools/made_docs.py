@@ -1,11 +1,12 @@
 #!/usr/bin/env python3
-"""Makes docs/definitions.md, docs/surface.md and the numbers of docs/reading.md from the sources, and lists exports.
+"""Makes docs/definitions.md, docs/surface.md, the last table of docs/where.md and the numbers of docs/reading.md from the sources, and lists exports.
 
     tools/made_docs.py [--check | --missing | --laws | --calls [CRATE ..] | --where NAME]
 
 docs/definitions.md has each file of specs/ on which the contract of the whole program rests: the number of its lines that
 it rests on (`tools/definitions.py reading`), the first clause of its head comment, and its public source. docs/surface.md
-has the names of tools/surface.py, with the first clause of each doc comment. In docs/reading.md the totals and the lines
+has the names of tools/surface.py, with the first clause of each doc comment; docs/where.md has for each of these names the module that declares it and
+the crates that export it (tools/exports.py). In docs/reading.md the totals and the lines
 of the named files are made.
 
 --check writes nothing: it prints the differences, and its status is 1 if there are any. --missing prints exports without
@@ -64,6 +65,16 @@ Made by `tools/made_docs.py` from the files of specs/ on which the contract of a
 `program::run`, rests (docs/reading.md), highest crate first: each file with the number of its lines
 that count, and what it defines. Its head comment names the public source, which
 `tools/made_docs.py --where NAME` prints for a name.
+"""
+
+# the part of docs/where.md that is made
+WHERE = """## Where each name of the surface is
+
+Made by `tools/made_docs.py`: the names of docs/surface.md, the module that declares each, and the
+crates that export it, lowest first.
+
+| name | declared in | exported by |
+|-|-|-|
 """
 
 
@@ -308,12 +319,22 @@ def reading_page():
     return re.sub(r"(?m)^\| (crates/\S+\.antt) \| \d+ \|", lambda it: f"| {it[1]} | {lines_of(it[1])} |", text)
 
 
+def where_page():
+    """Returns docs/where.md with the table of the surface."""
+    import exports  # which imports tools/surface.py
+    import surface
+
+    rows = exports.where(exports.Tree(TOP), surface.SURFACE)
+    table = "".join(f"| `{name}` | {home} | {', '.join(crates)} |\n" for name, home, crates in rows)
+    return text_of("docs/where.md").partition(f"\n{WHERE.partition(chr(10))[0]}")[0] + f"\n{WHERE}{table}"
+
+
 def lines_of(path):
     """Returns the number of lines of a file, or 0 if there is no such file."""
     return text_of(path).count("\n") if os.path.isfile(f"{TOP}/{path}") else 0
 
 
-MADE = (("docs/definitions.md", definitions), ("docs/surface.md", surface_page), ("docs/reading.md", reading_page))
+MADE = (("docs/definitions.md", definitions), ("docs/surface.md", surface_page), ("docs/where.md", where_page), ("docs/reading.md", reading_page))
 
 
 def stale():

@@ -1,5 +1,5 @@
 #!/usr/bin/env python3
-"""Checks docs/where.md: each file, name, clause and heading of its table exists. It prints what does not; its status is 1 if anything is missing.
+"""Checks docs/where.md: each file, name, clause and heading of its first table exists. It prints what does not; its status is 1 if anything is missing.
 
     tools/where_it_stands.py
 
@@ -68,7 +68,8 @@ def about_test(test):
 
 def faults():
     """Yields what is missing, a line for each; also if the table has no rows."""
-    rows = [[it.strip() for it in line.strip("|").split("|")] for line in (text_of(PAGE) or "").split("\n") if re.match(r"\| .*::", line)]
+    first = (text_of(PAGE) or "").partition("\n## ")[0]
+    rows = [[it.strip() for it in line.strip("|").split("|")] for line in first.split("\n") if re.match(r"\| .*::", line)]
     if not rows:
         yield f"{PAGE}: expected a table of rules, got none"
     for row in rows:
