@@ -1,0 +1,14 @@
+pub mod Cuts
+pub mod Lists
+pub mod Passing
+pub mod WholeLines
+pub mod Recorded
+pub mod Calls
+pub mod Exchanged
+pub mod Crashes
+pub mod SafeRounds
+pub mod Survivors
+pub mod Recovered
+pub mod Refused
+pub mod Opened
+pub mod Compacted

@@ -1,0 +1,11 @@
+pub mod Events
+pub mod Moments
+pub mod Lines
+pub mod Records
+pub mod Steps
+pub mod Exchanges
+pub mod Survivors
+pub mod Rounds
+pub mod Recovery
+pub mod Compaction
+pub mod inner
