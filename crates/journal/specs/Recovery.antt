@@ -27,7 +27,7 @@ IsSettling end events false = (events ≡ event.sync false ∷ []) ⊎ (events �
 -- `states line us` relates a record to the updates that it states.
 module _ (states : List ℕ → List Update → Type 0) where
   -- `IsBeginning end events done` holds if `events` record a header if `end` is 0, up to the first call that failed;
-  -- and are none otherwise. `done` is whether all succeeded.
+  -- and is empty otherwise. `done` is whether all succeeded.
   abbrev pub IsBeginning : ℕ → List Event → Bool → Type 0
   IsBeginning end events done = ((end ≢ 0) × (events ≡ []) × (done ≡ true))
       ⊎ ((end ≡ 0) × ((line : List ℕ) × IsLine line × states line [] × IsRecording (line ++ 10 ∷ []) events done))

@@ -47,8 +47,8 @@ pub fn runs_join<R: Replica>()
         → Chain (R.steps x) two m t → Chain (R.steps x) (one ++ two) s t }
 {}
 
-/// Proves that the stamp that a site issues from the store of some updates is none of theirs, even if an update lost to
-/// a greater one: it has a greater count than each. No-op.
+/// Proves that the stamp that a site issues from the store of some updates is not one of theirs, even if an update lost
+/// to a greater one: it has a greater count than each. No-op.
 pub fn stamps_are_new()
     ensures { (found : List Update) (site : List ℕ) (u : Update) → Contains found u
         → u.1.count < (issue (store_of found) site).count }

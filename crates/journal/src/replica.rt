@@ -48,7 +48,7 @@ pub trait Replica {
             × steps (setting self.old) (store self.old) request.now us reply.new.items (store self.new)
             × (unrecorded self.new ≡ unrecorded self.old ++ us) };
 
-    /// Puts the entry of the unrecorded updates into `entry`: their record with a line feed; nothing if there are none.
+    /// Puts the entry of the unrecorded updates into `entry`: their record with a line feed; nothing without updates.
     ///
     /// # Errors
     ///

@@ -23,7 +23,7 @@ use Rattle.schema_decisions.specs.Decisions.{IsDecided, IsSchemaDecisionRefused,
 use Rattle.schema_decisions.specs.StatedDecisions.{IsNoEntity, setting_under, DescribesSchemaDecision}
 use Rattle.schema_decisions.specs.StatedDecisions.{RejectsSchemaDecision, bad_schema, bad_texts, DecisionsAreAsStated}
 
--- ---- no error of an entity is want of memory
+-- ---- no error of an entity is `NoMemory`
 
 parents_code : (s : StatedSchema) (uid : EntityUid) (ps : List EntityUid) (fault : EntityFault) → RefusesParents s uid ps fault → (code_of fault == 1) ≡ false
 parents_code s uid ps fault (says.self_parent p more same) = refl
