@@ -4,7 +4,7 @@
     tools/surface.py
 
 Each name of SURFACE must be declared in the root of its crate, or passed on there by `pub use`, which the gate compiles; and so on down to the
-declaring crate, with a doc comment. Prints what is missing; its status is 1 if anything is. tools/made_docs.py makes docs/surface.md of the same
+declaring crate, with a doc comment. `Type::method` is a public method of such a type. Prints what is missing; its status is 1 if anything is. tools/made_docs.py makes docs/surface.md of the same
 list. Standard library alone.
 """
 import argparse
@@ -31,7 +31,9 @@ SURFACE = {
     "sync_messages": [
         "write_state", "write_delta", "write_summary", "read_message", "read_summary", "Update", "Summary", "MessageFault",
     ],
-    "site": ["Site", "Put", "Taken", "SiteFault", "run", "Input", "Reply", "simulate", "Event", "World", "is_site_name"],
+    "site": [
+        "Site", "Site::run", "Put", "Taken", "SiteFault", "Input", "Reply", "simulate", "Event", "World", "is_site_name",
+    ],
     "http_service": [
         "serve", "StreamFault", "fetch", "FetchFault", "Ask", "Source", "Sink", "Counted", "Fed", "Kept", "answer_line", "error_line",
     ],
@@ -72,11 +74,21 @@ class Surface:
         return self.files[path]
 
     def declared(self, crate, name):
-        """Returns the item that a crate exports by this name, and the crate that declares it, or None."""
+        """Returns the item that a crate exports by this name (`Type::method`: of a type), and the crate that declares it, or None."""
+        kind, _, method = name.partition("::")
+        if method:
+            home = self.declared(crate, kind)
+            return home and self.method(home[1], kind, method)
         words = self.paths[crate].get(name, ["lib", name])
         if words[0] not in self.roots or os.path.isfile(f"{made_docs.TOP}/crates/{crate}/src/{words[0]}.rt"):
             return self.item(crate, "/".join(words[:-1]), name)
         return self.declared(words[0], name) if len(words) == 2 else self.item(words[0], "/".join(words[1:-1]), name)
+
+    def method(self, crate, kind, name):
+        """Returns the public method of a type, in whichever module of its crate it is, and the crate, or None."""
+        modules = [it[:-3] for it in sorted(os.listdir(f"{made_docs.TOP}/crates/{crate}/src")) if it.endswith(".rt")]
+        found = [it for module in modules for of, it in self.items(crate, module)[1] if (of, it.name) == (kind, name)]
+        return (found[0], crate) if found else None
 
     def item(self, crate, module, name):
         item = next((it for it in self.items(crate, module)[0] if it.name == name), None)

@@ -1,6 +1,6 @@
 -- What is said of routes over a borrowed site is said of the site in the midst of its run, and the borrow stays the
 -- same; and what is said of a site in its run is said of the site.
-use Rattle.std.proofs.Common.{◌≡◌, ℕ, Option, Result, List, [], ◌∷◌, ◌++◌, refl, sym, ap, ◌∙◌, subst}
+use Rattle.std.proofs.Common.{◌≡◌, ℕ, Option, Result, List, [], ◌∷◌, ◌++◌, refl, sym, ap, ◌∙◌, subst, Ok, Err}
 use Rattle.http.specs.declared.status.StatusCode.{StatusCode}
 use Rattle.http_streams.specs.Serving.{IsAnswered}
 use Rattle.http_streams.specs.declared.serve.StreamFault.{StreamFault}
@@ -9,11 +9,8 @@ use Rattle.site_calls.specs.site_steps.schema.Views.{schema_view}
 use Rattle.site_calls.specs.site_steps.SiteViews.{SiteView, schema_of, store_in, IsSameSite}
 use Rattle.site_calls.specs.site_steps.Runs.{Run}
 use Rattle.site_calls.proofs.of_site_steps.RunLemmas.{run_push, same_step}
-use Rattle.http_routes.specs.Routes.{route_stated}
-use Rattle.site_calls.specs.SiteRequest.{SiteRequest, gives, rejects, unserved}
-use Rattle.http_service.specs.RequestInputs.{request_of}
-use Rattle.site_calls.specs.Answers.{Replies}
-use Rattle.http_service.specs.RequestReplies.{answers_over}
+use Rattle.http_service.specs.Routes.{Asked, route_stated}
+use Rattle.http_service.specs.RequestReplies.{RepliesTo, answers_over}
 use Rattle.http_service.specs.Serving.{Served, before_requests, Continues, ContinuesRequest, IsServed}
 use Rattle.http_service.specs.declared.site_service.SiteService.{SiteService}
 use Rattle.http_service.proofs.RunLemmas.{RunsTake}
@@ -37,10 +34,10 @@ no_step first v new h e = record {
   same = same_then first v.site new h.same (unchanged v.site new e);
 }
 
-one_request : (first : SiteView) (a : SiteRequest) (v : Served) (new : SiteView) (status : StatusCode) (line : List ℕ) → Running first v
-    → Replies v.site a status line new
+one_request : (first : SiteView) (a : Asked) (v : Served) (new : SiteView) (status : StatusCode) (line : List ℕ) → Running first v
+    → RepliesTo v.site a status line new
     → (w : Served) × Continues v a status line w × Running first w × (w.site ≡ new)
-one_request first (gives i) v new status line so_far h = (
+one_request first (Ok i) v new status line so_far h = (
   record { site = new; inputs = v.inputs ++ i ∷ []; replies = v.replies ++ h.0 ∷ [] },
   (h.0, h.1, h.2, h.3, refl, refl),
   record {
@@ -51,13 +48,7 @@ one_request first (gives i) v new status line so_far h = (
   },
   refl,
 )
-one_request first (rejects f) v new status line so_far h = (
-  record { site = new; inputs = v.inputs; replies = v.replies },
-  (h, refl, refl),
-  no_step first v new so_far h.1,
-  refl,
-)
-one_request first (unserved s) v new status line so_far h = (
+one_request first (Err s) v new status line so_far h = (
   record { site = new; inputs = v.inputs; replies = v.replies },
   (h, refl, refl),
   no_step first v new so_far h.1,
@@ -74,9 +65,9 @@ carry_on : (start a b : SiteService) (x : Served) (m t body : List ℕ) (status 
     → answers_over a m t body status line b
     → (y : Served) × ContinuesRequest x m t body status line y × Carries start b y
 carry_on start a b x m t body status line carries h =
-    let asks = request_of (route_stated m t) body in
+    let asks = route_stated m t body in
     let one = one_request start.site.now asks x b.site.now status line carries.running
-    (subst (λ (s : SiteView). Replies s asks status line b.site.now) (sym carries.site) h.0) in
+    (subst (λ (s : SiteView). RepliesTo s asks status line b.site.now) (sym carries.site) h.0) in
     (one.0, one.1, record { site = one.3; running = one.2; borrow = h.1 ∙ carries.borrow })
 
 carried_first : (start : SiteService) → Carries start start (before_requests start.site.now)

@@ -1,9 +1,10 @@
 pub mod Carried
 pub mod ServedLemmas
 pub mod RunLemmas
-pub mod Dealt
 pub mod OneReply
 pub mod LoggedRuns
 pub mod Noted
 pub mod UnreadLemmas
+mod PieceLemmas
+mod Feeds
 mod LineLaws

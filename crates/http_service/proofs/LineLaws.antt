@@ -1,51 +1,46 @@
 -- The line of a request that was served is one line, and that of a change that was made has its stamp.
 use Rattle.std.proofs.Common.{◌≡◌, ◌≤◌, ◌<◌, ◌+◌, ◌⊎◌, inl, inr, ℕ, Bool, true, false, List, ◌++◌, length, length-append, Option, Some, None}
 use Rattle.std.proofs.Common.{Result, Ok, Err, refl, sym, ap, ◌∙◌, subst, arith, codes, decimal, ◌==◌, ◌||◌}
-use Rattle.std.specs.Prelude.{if◌then◌else◌, option_and_then}
-use Rattle.std.specs.Str.{is_utf8}
+use Rattle.std.specs.Prelude.{if◌then◌else◌}
 use Rattle.std.proofs.lemmas.Bool.{le-leb}
 use Rattle.std.proofs.lemmas.Fmt.{length-decimal-le}
 use Rattle.json_words.specs.Json.{json_of}
 use Rattle.serde_json.specs.Data.{Data, boolean, number, unsigned, string, object, no_members, member}
 use Rattle.http.specs.declared.status.StatusCode.{StatusCode}
-use Rattle.http_logs.proofs.Feeds.{compact_free, line_unread, log_line_one, made_one, plain_one}
-use Rattle.http_logs.specs.LogLines.{IsLogLine, IsUndone, head_text, executed_tail, stamp_tail, plain_tail, tail_of, text_of, unread_line}
-use Rattle.http_logs.specs.OneLine.{HasNoLineFeed, IsOneLine}
-use Rattle.http_routes.specs.Routes.{route_stated}
-use Rattle.http_routes.specs.declared.route.PolicyId.TheVariants.{Named, NotUtf8}
-use Rattle.http_routes.specs.declared.route.Route.{Route}
-use Rattle.http_routes.specs.declared.route.Route.TheVariants as route
+use Rattle.http_service.proofs.Feeds.{compact_free, input_one, line_unread, log_line_one, made_one, plain_one}
+use Rattle.http_service.specs.LogLines.{IsLogLine, IsUndone, head_text, made_tail, stamp_tail, plain_tail, tail_of, text_of}
+use Rattle.http_service.specs.LogLines.{unread_line}
+use Rattle.http_service.specs.OneLine.{HasNoLineFeed, IsOneLine}
+use Rattle.http_service.specs.Routes.{Asked, route_stated}
 use Rattle.site_calls.proofs.LineLemmas.{stamp_pieces, put_pieces}
 use Rattle.site_calls.specs.answer_lines.Lines.{answer_json, answer_line}
 use Rattle.site_calls.specs.answer_lines.Refusals.{error_line, refusal_json}
 use Rattle.site_calls.specs.inner.Pieces.{boolean_word, site_end}
+use Rattle.site_calls.specs.Answers.{Replies}
 use Rattle.site_calls.specs.Lines.{fault_line, found_json, found_line, put_line, stamp_line, taken_line}
 use Rattle.site_calls.specs.Replies.{fault_reply, put_reply, stamp_reply}
-use Rattle.site_calls.specs.entity_uids.Uids.{uid_in}
+use Rattle.site_calls.specs.Reports.{reported}
 use Rattle.site_calls.specs.site_steps.Faults.{code_of, place_of, within_of}
 use Rattle.site_calls.specs.site_steps.Inputs.{Input}
 use Rattle.site_calls.specs.site_steps.Inputs as input
+use Rattle.site_calls.specs.site_steps.Readings.{parsed}
 use Rattle.site_calls.specs.site_steps.Runs.{Step}
 use Rattle.site_calls.specs.site_steps.SiteViews.{SiteView, schema_of, store_in}
-use Rattle.site_calls.specs.site_steps.Steps.{Deletes, PutsEntity, PutsPolicy, most_count}
+use Rattle.site_calls.specs.site_steps.Steps.{DeletesEntity, DeletesPolicy, PutsEntity, PutsPolicy, Records, most_count}
 use Rattle.site_calls.specs.site_steps.declared.fault.SiteFault.{SiteFault}
 use Rattle.site_calls.specs.site_steps.declared.fault.SiteFault.TheVariants as fault
 use Rattle.site_calls.specs.site_steps.declared.outcome.Put.{Put}
 use Rattle.site_calls.specs.site_steps.declared.outcome.Taken.TheVariants.{All, Short}
 use Rattle.site_calls.specs.site_steps.declared.reply.Reply.{Reply}
 use Rattle.site_calls.specs.site_steps.declared.reply.Reply.TheVariants as told
+use Rattle.site_calls.specs.site_steps.entities.Canonical.{canonical_text}
 use Rattle.site_calls.specs.site_steps.schema.Schemas.{StatedSchema}
 use Rattle.site_calls.specs.site_steps.stamped_store.Greatest.{greatest_count}
 use Rattle.site_calls.specs.site_steps.stamped_store.SiteNames.{IsSiteName}
 use Rattle.site_calls.specs.site_steps.stamped_store.Store.{Store, entity_name, issue, policy_name}
 use Rattle.site_calls.specs.site_steps.stamped_store.declared.entry.Stamp.{Stamp}
 use Rattle.values.specs.declared.name.Name.{Name}
-use Rattle.values.specs.declared.entity_uid.EntityUid.{EntityUid}
-use Rattle.site_calls.specs.Answers.{Replies}
-use Rattle.site_calls.specs.SiteRequest.{SiteRequest, gives, not_text, rejects, unserved, removal_asked}
-use Rattle.site_calls.specs.Reports.{reported}
-use Rattle.http_service.specs.RequestReplies.{answers}
-use Rattle.http_service.specs.RequestInputs.{request_of}
+use Rattle.http_service.specs.RequestReplies.{RepliesTo, answers}
 use Rattle.http_service.specs.Lines.{IsChange, stamped_end}
 
 -- ---- the lengths of stamps
@@ -119,12 +114,14 @@ fault_made f line e =
     never 200 (code_of f == 60) (code_of f == 61) (code_of f == 62) (code_of f == 1)
     (ap (λ (p : StatusCode × List ℕ). p.0) e) refl
 
-rejected_made : (f : SiteFault) (line : List ℕ) → IsMade line (fault_reply f) ⊎ IsMade line (fault_reply fault.NoMemory) → ⊥
-rejected_made f line (inl e) = fault_made f line e
-rejected_made f line (inr e) = fault_made fault.NoMemory line e
-
 same_length : (line : List ℕ) (pair : StatusCode × List ℕ) → IsMade line pair → length pair.1 ≤ 128 → length line ≤ 128
 same_length line pair e h = subst (λ (l : List ℕ). length l ≤ 128) (sym (ap (λ (p : StatusCode × List ℕ). p.1) e)) h
+
+recorded : (n : List ℕ) (s : Store) (name : Name) (body : Option (List ℕ)) (stamp : Stamp) (t : Store) (line : List ℕ)
+    → IsSiteName n → Records n s name body stamp t → IsMade line (stamp_reply (Ok stamp)) → length line ≤ 128
+recorded n s name body stamp t line named made e =
+    same_length line (stamp_reply (Ok stamp)) e
+    (stamp_fits stamp (issued_name n s stamp named made.next) (issued_count n s stamp made.clock made.next))
 
 policy_put : (schema : StatedSchema) (n : List ℕ) (s : Store) (id text : List ℕ) (r : Result Put SiteFault) (t : Store) (line : List ℕ)
     → IsSiteName n → PutsPolicy schema n s id text r t → IsMade line (put_reply r) → length line ≤ 128
@@ -135,97 +132,40 @@ policy_put schema n s id text (Ok put) t line named (p, admitted, known, made) e
 policy_put schema n s id text (Err f) t line named h e = absurd (fault_made f line e)
 
 entity_put : (schema : StatedSchema) (n : List ℕ) (s : Store) (json : Option Data) (r : Result Stamp SiteFault) (t : Store) (line : List ℕ)
-    → IsSiteName n → PutsEntity schema n s json r t → IsMade line (stamp_reply r) → length line ≤ 128
+    → IsSiteName n → PutsEntity (parsed schema) n s json r t → IsMade line (stamp_reply r) → length line ≤ 128
 entity_put schema n s json (Ok stamp) t line named (p, stated, free, made) e =
-    same_length line (stamp_reply (Ok stamp)) e
-    (stamp_fits stamp (issued_name n s stamp named made.next) (issued_count n s stamp made.clock made.next))
+    recorded n s (entity_name p.uid) (Some (canonical_text p)) stamp t line named made e
 entity_put schema n s json (Err f) t line named h e = absurd (fault_made f line e)
 
-deleted : (n : List ℕ) (s : Store) (name : Name) (r : Result Stamp SiteFault) (t : Store) (line : List ℕ)
-    → IsSiteName n → Deletes n s name r t → IsMade line (stamp_reply r) → length line ≤ 128
-deleted n s name (Ok stamp) t line named (some, made) e =
-    same_length line (stamp_reply (Ok stamp)) e
-    (stamp_fits stamp (issued_name n s stamp named made.next) (issued_count n s stamp made.clock made.next))
-deleted n s name (Err f) t line named h e = absurd (fault_made f line e)
+policy_deleted : (n : List ℕ) (s : Store) (id : List ℕ) (r : Result Stamp SiteFault) (t : Store) (line : List ℕ)
+    → IsSiteName n → DeletesPolicy n s id r t → IsMade line (stamp_reply r) → length line ≤ 128
+policy_deleted n s id (Ok stamp) t line named (utf8, deletes) e =
+    recorded n s (policy_name id) None stamp t line named deletes.1 e
+policy_deleted n s id (Err f) t line named h e = absurd (fault_made f line e)
 
--- an input that is a change
-abbrev IsChanging : Input → Type 0
-IsChanging (input.PutPolicy id text) = Unit {0}
-IsChanging (input.DeletePolicy id) = Unit {0}
-IsChanging (input.PutEntity bytes) = Unit {0}
-IsChanging (input.DeleteEntity uid) = Unit {0}
-IsChanging _ = ⊥
+entity_deleted : (schema : StatedSchema) (n : List ℕ) (s : Store) (json : Option Data) (r : Result Stamp SiteFault) (t : Store) (line : List ℕ)
+    → IsSiteName n → DeletesEntity (parsed schema) n s json r t → IsMade line (stamp_reply r) → length line ≤ 128
+entity_deleted schema n s json (Ok stamp) t line named (uid, is, deletes) e =
+    recorded n s (entity_name uid) None stamp t line named deletes.1 e
+entity_deleted schema n s json (Err f) t line named h e = absurd (fault_made f line e)
 
 step_fits : (schema : StatedSchema) (n : List ℕ) (s : Store) (i : Input) (r : Reply) (t : Store) (line : List ℕ)
-    → IsSiteName n → IsChanging i → Step schema n s i r t → IsMade line (reported r) → length line ≤ 128
+    → IsSiteName n → IsChange (Ok i) → Step schema n s i r t → IsMade line (reported r) → length line ≤ 128
 step_fits schema n s (input.PutPolicy id text) (told.Put r) t line named c h e = policy_put schema n s id text r t line named h e
-step_fits schema n s (input.DeletePolicy id) (told.Stamped r) t line named c h e = deleted n s (policy_name id) r t line named h e
-step_fits schema n s (input.PutEntity bytes) (told.Stamped r) t line named c h e = entity_put schema n s (json_of bytes) r t line named h e
-step_fits schema n s (input.DeleteEntity uid) (told.Stamped r) t line named c h e = deleted n s (entity_name uid) r t line named h e
-step_fits schema n s (input.PutPolicy id text) (told.Stamped r) t line named c h e = absurd h
-step_fits schema n s (input.PutPolicy id text) (told.Taken r) t line named c h e = absurd h
-step_fits schema n s (input.PutPolicy id text) (told.Answered r) t line named c h e = absurd h
-step_fits schema n s (input.PutPolicy id text) (told.Found r) t line named c h e = absurd h
-step_fits schema n s (input.PutPolicy id text) (told.Written r) t line named c h e = absurd h
-step_fits schema n s (input.DeletePolicy id) (told.Put r) t line named c h e = absurd h
-step_fits schema n s (input.DeletePolicy id) (told.Taken r) t line named c h e = absurd h
-step_fits schema n s (input.DeletePolicy id) (told.Answered r) t line named c h e = absurd h
-step_fits schema n s (input.DeletePolicy id) (told.Found r) t line named c h e = absurd h
-step_fits schema n s (input.DeletePolicy id) (told.Written r) t line named c h e = absurd h
-step_fits schema n s (input.PutEntity bytes) (told.Put r) t line named c h e = absurd h
-step_fits schema n s (input.PutEntity bytes) (told.Taken r) t line named c h e = absurd h
-step_fits schema n s (input.PutEntity bytes) (told.Answered r) t line named c h e = absurd h
-step_fits schema n s (input.PutEntity bytes) (told.Found r) t line named c h e = absurd h
-step_fits schema n s (input.PutEntity bytes) (told.Written r) t line named c h e = absurd h
-step_fits schema n s (input.DeleteEntity uid) (told.Put r) t line named c h e = absurd h
-step_fits schema n s (input.DeleteEntity uid) (told.Taken r) t line named c h e = absurd h
-step_fits schema n s (input.DeleteEntity uid) (told.Answered r) t line named c h e = absurd h
-step_fits schema n s (input.DeleteEntity uid) (told.Found r) t line named c h e = absurd h
-step_fits schema n s (input.DeleteEntity uid) (told.Written r) t line named c h e = absurd h
-step_fits schema n s (input.Take bytes) r t line named c h e = absurd c
-step_fits schema n s (input.Authorize bytes) r t line named c h e = absurd c
-step_fits schema n s (input.GetPolicy id) r t line named c h e = absurd c
-step_fits schema n s input.State r t line named c h e = absurd c
-step_fits schema n s input.Summary r t line named c h e = absurd c
-step_fits schema n s (input.Delta bytes) r t line named c h e = absurd c
+step_fits schema n s (input.DeletePolicy id) (told.Stamped r) t line named c h e = policy_deleted n s id r t line named h e
+step_fits schema n s (input.PutEntity body) (told.Stamped r) t line named c h e = entity_put schema n s (json_of body) r t line named h e
+step_fits schema n s (input.DeleteEntity body) (told.Stamped r) t line named c h e = entity_deleted schema n s (json_of body) r t line named h e
+step_fits schema n s (input.PutPolicy id text) _ t line named c h e = absurd h
+step_fits schema n s (input.DeletePolicy id) _ t line named c h e = absurd h
+step_fits schema n s (input.PutEntity body) _ t line named c h e = absurd h
+step_fits schema n s (input.DeleteEntity body) _ t line named c h e = absurd h
+step_fits schema n s _ r t line named c h e = absurd c
 
-abbrev AsksChange : SiteRequest → Type 0
-AsksChange (gives i) = IsChanging i
-AsksChange (rejects f) = Unit {0}
-AsksChange (unserved s) = ⊥
-
-asked_fits : (old new : SiteView) (a : SiteRequest) (line : List ℕ) → IsSiteName old.name → AsksChange a
-    → Replies old a 200 line new → length line ≤ 128
-asked_fits old new (gives i) line named c (r, step, same, e) =
+asked_fits : (old new : SiteView) (a : Asked) (line : List ℕ) → IsSiteName old.name → IsChange a
+    → RepliesTo old a 200 line new → length line ≤ 128
+asked_fits old new (Ok i) line named c (r, step, same, e) =
     step_fits (schema_of old) old.name (store_in old) i r (store_in new) line named c step e
-asked_fits old new (rejects f) line named c h = absurd (rejected_made f line h.0)
-asked_fits old new (unserved s) line named c h = absurd c
-
--- ---- what changes ask
-
-put_asks : (b : Bool) (id text : List ℕ) (f : SiteFault) → AsksChange (if b then gives (input.PutPolicy id text) else rejects f)
-put_asks true id text f = tt
-put_asks false id text f = tt
-
-removal_asks : (uid : Option EntityUid) → AsksChange (removal_asked uid)
-removal_asks (Some uid) = tt
-removal_asks None = tt
-
-change_asks : (asking : Route) (body : List ℕ) → IsChange asking → AsksChange (request_of asking body)
-change_asks (route.PutPolicy (Named id)) body c = put_asks (is_utf8 body) id body (fault.Policy (not_text id body))
-change_asks (route.PutPolicy NotUtf8) body c = tt
-change_asks (route.DeletePolicy (Named id)) body c = tt
-change_asks (route.DeletePolicy NotUtf8) body c = tt
-change_asks route.PutEntity body c = tt
-change_asks route.DeleteEntity body c = removal_asks (option_and_then uid_in (json_of body))
-change_asks route.Authorize body c = absurd c
-change_asks (route.GetPolicy id) body c = absurd c
-change_asks route.State body c = absurd c
-change_asks route.Summary body c = absurd c
-change_asks route.Delta body c = absurd c
-change_asks route.Merge body c = absurd c
-change_asks route.Unknown body c = absurd c
-change_asks route.OtherMethod body c = absurd c
+asked_fits old new (Err s) line named c h = absurd c
 
 -- ---- the line of a change that was made
 
@@ -233,53 +173,35 @@ short_told : (line : List ℕ) → length line ≤ 128 → stamp_tail 200 line �
 short_told line short =
     ap (λ (b : Bool). if b then stamped_end line else plain_tail 200) (le-leb (length line) 128 short)
 
-change_tail : (asking : Route) (body line : List ℕ) → IsChange asking → length line ≤ 128
-    → tail_of asking 200 body line ≡ stamped_end line
-change_tail (route.PutPolicy id) body line c short = short_told line short
-change_tail (route.DeletePolicy id) body line c short = short_told line short
-change_tail route.PutEntity body line c short = short_told line short
-change_tail route.DeleteEntity body line c short = short_told line short
-change_tail route.Authorize body line c short = absurd c
-change_tail (route.GetPolicy id) body line c short = absurd c
-change_tail route.State body line c short = absurd c
-change_tail route.Summary body line c short = absurd c
-change_tail route.Delta body line c short = absurd c
-change_tail route.Merge body line c short = absurd c
-change_tail route.Unknown body line c short = absurd c
-change_tail route.OtherMethod body line c short = absurd c
+change_tail : (a : Asked) (line : List ℕ) → IsChange a → length line ≤ 128 → tail_of a 200 line ≡ stamped_end line
+change_tail (Ok (input.PutPolicy id text)) line c short = short_told line short
+change_tail (Ok (input.DeletePolicy id)) line c short = short_told line short
+change_tail (Ok (input.PutEntity body)) line c short = short_told line short
+change_tail (Ok (input.DeleteEntity body)) line c short = short_told line short
+change_tail _ line c short = absurd c
 
 not_refused : (n : ℕ) → n ≡ 200 → n ≡ 503 → ⊥
 not_refused n e f = omega (arith, e, f)
 
-change_done : (asking : Route) (line : List ℕ) → IsChange asking → IsUndone asking 200 line → ⊥
-change_done (route.PutPolicy id) line c h = not_refused 200 refl h.0
-change_done (route.DeletePolicy id) line c h = not_refused 200 refl h.0
-change_done route.PutEntity line c h = not_refused 200 refl h.0
-change_done route.DeleteEntity line c h = not_refused 200 refl h.0
-change_done route.Authorize line c h = absurd c
-change_done (route.GetPolicy id) line c h = absurd c
-change_done route.State line c h = absurd c
-change_done route.Summary line c h = absurd c
-change_done route.Delta line c h = absurd c
-change_done route.Merge line c h = absurd c
-change_done route.Unknown line c h = absurd c
-change_done route.OtherMethod line c h = absurd c
+change_done : (a : Asked) (line : List ℕ) → IsChange a → IsUndone a 200 line → ⊥
+change_done (Ok i) line c h = not_refused 200 refl h.0
+change_done (Err s) line c h = absurd c
 
-change_at : (asking : Route) (method target body reply line : List ℕ) → IsChange asking → length reply ≤ 128
-    → (line ≡ head_text (text_of method) (text_of target) ++ tail_of asking 200 body reply)
-    ⊎ ((line ≡ unread_line 200) × IsUndone asking 200 reply)
+change_at : (a : Asked) (method target reply line : List ℕ) → IsChange a → length reply ≤ 128
+    → (line ≡ head_text (text_of method) (text_of target) ++ tail_of a 200 reply)
+    ⊎ ((line ≡ unread_line 200) × IsUndone a 200 reply)
     → line ≡ head_text (text_of method) (text_of target) ++ stamped_end reply
-change_at asking method target body reply line c short (inl e) =
-    e ∙ ap (λ (t : List ℕ). head_text (text_of method) (text_of target) ++ t) (change_tail asking body reply c short)
-change_at asking method target body reply line c short (inr (e, undone)) = absurd (change_done asking reply c undone)
+change_at a method target reply line c short (inl e) =
+    e ∙ ap (λ (t : List ℕ). head_text (text_of method) (text_of target) ++ t) (change_tail a reply c short)
+change_at a method target reply line c short (inr (e, undone)) = absurd (change_done a reply c undone)
 
 pub change_told : (old new : SiteView) (method target body reply line : List ℕ) → IsSiteName old.name
-    → IsChange (route_stated method target) → answers old method target body 200 reply new
+    → IsChange (route_stated method target body) → answers old method target body 200 reply new
     → IsLogLine method target body 200 reply line
     → line ≡ head_text (text_of method) (text_of target) ++ stamped_end reply
 change_told old new method target body reply line named c h is =
-    change_at (route_stated method target) method target body reply line c
-    (asked_fits old new (request_of (route_stated method target) body) reply named (change_asks (route_stated method target) body c) h) is
+    change_at (route_stated method target body) method target reply line c
+    (asked_fits old new (route_stated method target body) reply named c h) is
 
 -- ---- replies without a line feed
 
@@ -332,9 +254,6 @@ reported_free (told.Found (Ok None)) h = site_fault_free fault.NotThere
 reported_free (told.Found (Err f)) h = site_fault_free f
 reported_free (told.Written r) h = absurd h
 
-same_free : (status : StatusCode) (line : List ℕ) (pair : StatusCode × List ℕ) → (status, line) ≡ pair → HasNoLineFeed pair.1 → HasNoLineFeed line
-same_free status line pair e h = subst HasNoLineFeed (sym (ap (λ (p : StatusCode × List ℕ). p.1) e)) h
-
 -- an input that does not ask for a message
 abbrev AsksNoMessage : Input → Type 0
 AsksNoMessage input.State = ⊥
@@ -344,82 +263,42 @@ AsksNoMessage _ = Unit {0}
 
 no_message : (schema : StatedSchema) (n : List ℕ) (s : Store) (i : Input) (r : Reply) (t : Store) → AsksNoMessage i
     → Step schema n s i r t → IsNoMessage r
-no_message schema n s i (told.Put r) t c h = tt
-no_message schema n s i (told.Stamped r) t c h = tt
-no_message schema n s i (told.Taken r) t c h = tt
-no_message schema n s i (told.Answered r) t c h = tt
-no_message schema n s i (told.Found r) t c h = tt
-no_message schema n s (input.PutPolicy id text) (told.Written r) t c h = absurd h
-no_message schema n s (input.DeletePolicy id) (told.Written r) t c h = absurd h
-no_message schema n s (input.PutEntity bytes) (told.Written r) t c h = absurd h
-no_message schema n s (input.DeleteEntity uid) (told.Written r) t c h = absurd h
-no_message schema n s (input.Take bytes) (told.Written r) t c h = absurd h
-no_message schema n s (input.Authorize bytes) (told.Written r) t c h = absurd h
-no_message schema n s (input.GetPolicy id) (told.Written r) t c h = absurd h
 no_message schema n s input.State (told.Written r) t c h = absurd c
 no_message schema n s input.Summary (told.Written r) t c h = absurd c
 no_message schema n s (input.Delta bytes) (told.Written r) t c h = absurd c
+no_message schema n s i (told.Written r) t c h = absurd h
+no_message schema n s i _ t c h = tt
 
-abbrev AsksPlainly : SiteRequest → Type 0
-AsksPlainly (gives i) = AsksNoMessage i
-AsksPlainly (rejects f) = Unit {0}
-AsksPlainly (unserved s) = Unit {0}
-
-asked_free : (old new : SiteView) (a : SiteRequest) (status : StatusCode) (line : List ℕ) → AsksPlainly a
-    → Replies old a status line new → HasNoLineFeed line
-asked_free old new (gives i) status line c (r, step, same, e) =
-    same_free status line (reported r) e
+input_free : (old new : SiteView) (i : Input) (status : StatusCode) (line : List ℕ) → AsksNoMessage i
+    → Replies old i status line new → HasNoLineFeed line
+input_free old new i status line c (r, step, same, e) =
+    subst HasNoLineFeed (sym (ap (λ (p : StatusCode × List ℕ). p.1) e))
     (reported_free r (no_message (schema_of old) old.name (store_in old) i r (store_in new) c step))
-asked_free old new (rejects f) status line c (inl e, same) = same_free status line (fault_reply f) e (site_fault_free f)
-asked_free old new (rejects f) status line c (inr e, same) =
-    same_free status line (fault_reply fault.NoMemory) e (site_fault_free fault.NoMemory)
-asked_free old new (unserved s) status line c (e, same) = same_free status line (s, fault_line s None None) e (fault_free s None None)
-
-change_plainly : (a : SiteRequest) → AsksChange a → AsksPlainly a
-change_plainly (gives (input.PutPolicy id text)) c = tt
-change_plainly (gives (input.DeletePolicy id)) c = tt
-change_plainly (gives (input.PutEntity bytes)) c = tt
-change_plainly (gives (input.DeleteEntity uid)) c = tt
-change_plainly (gives (input.Take bytes)) c = tt
-change_plainly (gives (input.Authorize bytes)) c = tt
-change_plainly (gives (input.GetPolicy id)) c = tt
-change_plainly (gives input.State) c = absurd c
-change_plainly (gives input.Summary) c = absurd c
-change_plainly (gives (input.Delta bytes)) c = absurd c
-change_plainly (rejects f) c = tt
-change_plainly (unserved s) c = tt
-
-change_free : (old new : SiteView) (asking : Route) (body : List ℕ) (status : StatusCode) (line : List ℕ) → IsChange asking
-    → Replies old (request_of asking body) status line new → HasNoLineFeed line
-change_free old new asking body status line c h =
-    asked_free old new (request_of asking body) status line
-    (change_plainly (request_of asking body) (change_asks asking body c)) h
 
 -- ---- one line of each request that is served
 
-served_tail : (old new : SiteView) (asking : Route) (body : List ℕ) (status : StatusCode) (line : List ℕ)
-    → Replies old (request_of asking body) status line new → IsOneLine (executed_tail asking status body line)
-served_tail old new route.Authorize body status line h =
-    made_one route.Authorize status body line (asked_free old new (request_of route.Authorize body) status line tt h)
-served_tail old new (route.PutPolicy id) body status line h =
-    made_one (route.PutPolicy id) status body line (change_free old new (route.PutPolicy id) body status line tt h)
-served_tail old new (route.DeletePolicy id) body status line h =
-    made_one (route.DeletePolicy id) status body line (change_free old new (route.DeletePolicy id) body status line tt h)
-served_tail old new route.PutEntity body status line h =
-    made_one route.PutEntity status body line (change_free old new route.PutEntity body status line tt h)
-served_tail old new route.DeleteEntity body status line h =
-    made_one route.DeleteEntity status body line (change_free old new route.DeleteEntity body status line tt h)
-served_tail old new (route.GetPolicy id) body status line h = plain_one status
-served_tail old new route.State body status line h = plain_one status
-served_tail old new route.Summary body status line h = plain_one status
-served_tail old new route.Delta body status line h = plain_one status
-served_tail old new route.Merge body status line h = plain_one status
-served_tail old new route.Unknown body status line h = plain_one status
-served_tail old new route.OtherMethod body status line h = plain_one status
+served_made : (old new : SiteView) (i : Input) (status : StatusCode) (line : List ℕ)
+    → Replies old i status line new → IsOneLine (made_tail i status line)
+served_made old new (input.Authorize body) status line h =
+    made_one (input.Authorize body) status line (input_free old new (input.Authorize body) status line tt h)
+served_made old new (input.PutPolicy id text) status line h =
+    made_one (input.PutPolicy id text) status line (input_free old new (input.PutPolicy id text) status line tt h)
+served_made old new (input.DeletePolicy id) status line h =
+    made_one (input.DeletePolicy id) status line (input_free old new (input.DeletePolicy id) status line tt h)
+served_made old new (input.PutEntity body) status line h =
+    made_one (input.PutEntity body) status line (input_free old new (input.PutEntity body) status line tt h)
+served_made old new (input.DeleteEntity body) status line h =
+    made_one (input.DeleteEntity body) status line (input_free old new (input.DeleteEntity body) status line tt h)
+served_made old new _ status line h = plain_one status
+
+served_tail : (old new : SiteView) (a : Asked) (status : StatusCode) (line : List ℕ)
+    → RepliesTo old a status line new → IsOneLine (tail_of a status line)
+served_tail old new (Ok i) status line h = input_one i status line (served_made old new i status line h)
+served_tail old new (Err s) status line h = plain_one status
 
 pub served_line : (old new : SiteView) (method target body : List ℕ) (status : StatusCode) (reply line : List ℕ)
     → answers old method target body status reply new → IsLogLine method target body status reply line → IsOneLine line
 served_line old new method target body status reply line h (inl e) =
     log_line_one method target body status reply line
-    (served_tail old new (route_stated method target) body status reply h) e
+    (served_tail old new (route_stated method target body) status reply h) e
 served_line old new method target body status reply line h (inr (e, undone)) = line_unread status line e

@@ -1,5 +1,5 @@
 -- A request has one reply from sites that are alike, want of memory aside.
-use Rattle.std.proofs.Common.{◌≡◌, ◌≢◌, ◌⊎◌, ℕ, List, Ok, Err, refl, sym, ap, ◌∙◌, subst, inl, inr}
+use Rattle.std.proofs.Common.{◌≡◌, ◌≢◌, ℕ, List, Ok, Err, refl, sym, ap, ◌∙◌, subst}
 use Rattle.http.specs.declared.status.StatusCode.{StatusCode}
 use Rattle.http_streams.specs.Laws.{HasOneAnswer, in_memory}
 use Rattle.site_calls.specs.site_steps.schema.Schemas.{StatedSchema, IsSchemaOf}
@@ -7,86 +7,28 @@ use Rattle.site_calls.specs.site_steps.schema.Views.{schema_view, IsStated}
 use Rattle.site_calls.specs.site_steps.schema.SchemaEntries.{SchemaEntries}
 use Rattle.site_calls.specs.site_steps.stamped_store.Store.{Store}
 use Rattle.site_calls.specs.site_steps.SiteViews.{SiteView, schema_of, store_in, IsSameSite}
-use Rattle.site_calls.specs.site_steps.declared.fault.SiteFault.{SiteFault}
 use Rattle.site_calls.specs.site_steps.declared.fault.SiteFault.TheVariants as fault
-use Rattle.site_calls.specs.Replies.{fault_reply}
-use Rattle.site_calls.specs.site_steps.declared.outcome.Taken.TheVariants.{All, Short}
+use Rattle.site_calls.specs.site_steps.declared.outcome.Taken.TheVariants.{Short}
 use Rattle.site_calls.specs.site_steps.Inputs.{Input}
 use Rattle.site_calls.specs.site_steps.declared.reply.Reply.{Reply}
 use Rattle.site_calls.specs.site_steps.declared.reply.Reply.TheVariants as reply
 use Rattle.site_calls.specs.site_steps.Outcomes.{IsWhole, InputsHaveOneOutcome}
 use Rattle.site_calls.specs.site_steps.Runs.{Step}
-use Rattle.http_routes.specs.Routes.{route_stated}
-use Rattle.site_calls.specs.SiteRequest.{SiteRequest, gives, rejects, unserved}
-use Rattle.http_service.specs.RequestInputs.{request_of}
-use Rattle.site_calls.specs.Answers.{Replies}
+use Rattle.http_service.specs.Routes.{Asked, route_stated}
 use Rattle.site_calls.specs.Reports.{reported}
-use Rattle.http_service.specs.RequestReplies.{IsAlike, answers}
+use Rattle.http_service.specs.RequestReplies.{IsAlike, RepliesTo, answers}
 
 -- ---- memory sufficed where the status does not say that it did not
 
 is_whole : (r : Reply) → (reported r).0 ≢ 503 → IsWhole r
-is_whole (reply.Put (Ok x)) h = tt
 is_whole (reply.Put (Err fault.NoMemory)) h = h refl
-is_whole (reply.Put (Err (fault.Policy f))) h = tt
-is_whole (reply.Put (Err (fault.Check f))) h = tt
-is_whole (reply.Put (Err (fault.Entity f))) h = tt
-is_whole (reply.Put (Err (fault.Message f))) h = tt
-is_whole (reply.Put (Err fault.NotThere)) h = tt
-is_whole (reply.Put (Err fault.WouldCycle)) h = tt
-is_whole (reply.Put (Err fault.ClockFull)) h = tt
-is_whole (reply.Put (Err (fault.Request f))) h = tt
-is_whole (reply.Stamped (Ok x)) h = tt
 is_whole (reply.Stamped (Err fault.NoMemory)) h = h refl
-is_whole (reply.Stamped (Err (fault.Policy f))) h = tt
-is_whole (reply.Stamped (Err (fault.Check f))) h = tt
-is_whole (reply.Stamped (Err (fault.Entity f))) h = tt
-is_whole (reply.Stamped (Err (fault.Message f))) h = tt
-is_whole (reply.Stamped (Err fault.NotThere)) h = tt
-is_whole (reply.Stamped (Err fault.WouldCycle)) h = tt
-is_whole (reply.Stamped (Err fault.ClockFull)) h = tt
-is_whole (reply.Stamped (Err (fault.Request f))) h = tt
-is_whole (reply.Taken (Ok (All k))) h = tt
 is_whole (reply.Taken (Ok (Short k))) h = h refl
 is_whole (reply.Taken (Err fault.NoMemory)) h = h refl
-is_whole (reply.Taken (Err (fault.Policy f))) h = tt
-is_whole (reply.Taken (Err (fault.Check f))) h = tt
-is_whole (reply.Taken (Err (fault.Entity f))) h = tt
-is_whole (reply.Taken (Err (fault.Message f))) h = tt
-is_whole (reply.Taken (Err fault.NotThere)) h = tt
-is_whole (reply.Taken (Err fault.WouldCycle)) h = tt
-is_whole (reply.Taken (Err fault.ClockFull)) h = tt
-is_whole (reply.Taken (Err (fault.Request f))) h = tt
-is_whole (reply.Answered (Ok x)) h = tt
 is_whole (reply.Answered (Err fault.NoMemory)) h = h refl
-is_whole (reply.Answered (Err (fault.Policy f))) h = tt
-is_whole (reply.Answered (Err (fault.Check f))) h = tt
-is_whole (reply.Answered (Err (fault.Entity f))) h = tt
-is_whole (reply.Answered (Err (fault.Message f))) h = tt
-is_whole (reply.Answered (Err fault.NotThere)) h = tt
-is_whole (reply.Answered (Err fault.WouldCycle)) h = tt
-is_whole (reply.Answered (Err fault.ClockFull)) h = tt
-is_whole (reply.Answered (Err (fault.Request f))) h = tt
-is_whole (reply.Found (Ok x)) h = tt
 is_whole (reply.Found (Err fault.NoMemory)) h = h refl
-is_whole (reply.Found (Err (fault.Policy f))) h = tt
-is_whole (reply.Found (Err (fault.Check f))) h = tt
-is_whole (reply.Found (Err (fault.Entity f))) h = tt
-is_whole (reply.Found (Err (fault.Message f))) h = tt
-is_whole (reply.Found (Err fault.NotThere)) h = tt
-is_whole (reply.Found (Err fault.WouldCycle)) h = tt
-is_whole (reply.Found (Err fault.ClockFull)) h = tt
-is_whole (reply.Found (Err (fault.Request f))) h = tt
-is_whole (reply.Written (Ok x)) h = tt
 is_whole (reply.Written (Err fault.NoMemory)) h = h refl
-is_whole (reply.Written (Err (fault.Policy f))) h = tt
-is_whole (reply.Written (Err (fault.Check f))) h = tt
-is_whole (reply.Written (Err (fault.Entity f))) h = tt
-is_whole (reply.Written (Err (fault.Message f))) h = tt
-is_whole (reply.Written (Err fault.NotThere)) h = tt
-is_whole (reply.Written (Err fault.WouldCycle)) h = tt
-is_whole (reply.Written (Err fault.ClockFull)) h = tt
-is_whole (reply.Written (Err (fault.Request f))) h = tt
+is_whole _ h = tt
 
 -- ---- one request
 
@@ -127,15 +69,10 @@ alike_after old old2 new new2 alike one two =
     still_alike old old2 new new2 alike (unchanged old new one) (unchanged old2 new2 two)
     (ap store_in one ∙ sym alike.2 ∙ sym (ap store_in two))
 
-refused_line : (f : SiteFault) (line : Line) → (line ≡ fault_reply f) ⊎ (line ≡ fault_reply fault.NoMemory)
-    → line.0 ≢ 503 → line ≡ fault_reply f
-refused_line f line (inl is) h = is
-refused_line f line (inr is) h = absurd (h (ap (λ (l : Line). l.0) is))
-
-one_of : HaveOneOutcome → (a : SiteRequest) (old old2 : SiteView) (st st2 : StatusCode) (x x2 : List ℕ) (new new2 : SiteView)
-    → IsAlike old old2 → Replies old a st x new → st ≢ 503
-    → Replies old2 a st2 x2 new2 → st2 ≢ 503 → (line st x ≡ line st2 x2) × IsAlike new new2
-one_of law (gives i) old old2 st st2 x x2 new new2 alike h some k some2 =
+one_of : HaveOneOutcome → (a : Asked) (old old2 : SiteView) (st st2 : StatusCode) (x x2 : List ℕ) (new new2 : SiteView)
+    → IsAlike old old2 → RepliesTo old a st x new → st ≢ 503
+    → RepliesTo old2 a st2 x2 new2 → st2 ≢ 503 → (line st x ≡ line st2 x2) × IsAlike new new2
+one_of law (Ok i) old old2 st st2 x x2 new new2 alike h some k some2 =
     let one = law alike.0.0 old.schema alike.0.1 old.name (store_in old) i h.0 k.0 (store_in new) (store_in new2)
     (record { step = h.1; whole = told_whole h.0 (st, x) h.3 some })
     (record {
@@ -143,14 +80,10 @@ one_of law (gives i) old old2 st st2 x x2 new new2 alike h some k some2 =
       whole = told_whole k.0 (st2, x2) k.3 some2;
     }) in
     (h.3 ∙ ap reported one.0 ∙ sym k.3, still_alike old old2 new new2 alike h.2 k.2 one.1)
-one_of law (rejects f) old old2 st st2 x x2 new new2 alike h some k some2 = (
-  refused_line f (st, x) h.0 some ∙ sym (refused_line f (st2, x2) k.0 some2),
-  alike_after old old2 new new2 alike h.1 k.1,
-)
-one_of law (unserved s) old old2 st st2 x x2 new new2 alike h some k some2 =
+one_of law (Err s) old old2 st st2 x x2 new new2 alike h some k some2 =
     (h.0 ∙ sym k.0, alike_after old old2 new new2 alike h.1 k.1)
 
 pub one_reply : HaveOneOutcome → HasOneAnswer (in_memory answers) IsAlike
 one_reply law old old2 m t b st st2 x x2 new new2 alike h k =
-    let one = one_of law (request_of (route_stated m t) b) old old2 st st2 x x2 new new2 alike h.0 h.1 k.0 k.1 in
+    let one = one_of law (route_stated m t b) old old2 st st2 x x2 new new2 alike h.0 h.1 k.0 k.1 in
     (ap (λ (l : Line). l.0) one.0, ap (λ (l : Line). l.1) one.0, one.1)

@@ -1,5 +1,5 @@
 -- What a stream leaves is what a run leaves.
-use Rattle.std.proofs.Common.{◌≡◌, ℕ, zero, suc, Bool, true, false, List, [], ◌∷◌, ◌++◌, refl, sym, ap, ◌∙◌, subst, inl}
+use Rattle.std.proofs.Common.{◌≡◌, ℕ, zero, suc, Bool, true, false, List, [], ◌∷◌, ◌++◌, refl, sym, ap, ◌∙◌, subst, inl, Ok, Err}
 use Rattle.std.proofs.Common.{inr}
 use Rattle.http.specs.declared.status.StatusCode.{StatusCode}
 use Rattle.http_streams.specs.Stream.{Closes, EndsByReply, Exchanges, RepliesInPart, AnswersAllRequests, Serves, StopsWithinReply}
@@ -10,11 +10,8 @@ use Rattle.site_calls.specs.site_steps.SiteViews.{SiteView, schema_of, store_in,
 use Rattle.site_calls.specs.site_steps.Runs.{Run, took}
 use Rattle.site_calls.specs.site_steps.Inputs.{Input}
 use Rattle.site_calls.specs.site_steps.declared.reply.Reply.{Reply}
-use Rattle.http_routes.specs.Routes.{route_stated}
-use Rattle.site_calls.specs.SiteRequest.{SiteRequest, gives, rejects, unserved}
-use Rattle.http_service.specs.RequestInputs.{request_of}
-use Rattle.site_calls.specs.Answers.{Replies}
-use Rattle.http_service.specs.RequestReplies.{answers}
+use Rattle.http_service.specs.Routes.{Asked, route_stated}
+use Rattle.http_service.specs.RequestReplies.{RepliesTo, answers}
 use Rattle.http_service.specs.Streams.{inputs_of, HaveInputs, LeavesRun}
 
 -- the run of some requests, its store not yet told
@@ -36,24 +33,17 @@ same_run a b s is rs t same h =
     (subst (λ (c : StatedSchema). Run c b.name s is rs t) (ap schema_view same.0) h)
 
 -- a request, and then some more
-before : (a : SiteRequest) (old mid new : SiteView) (status : StatusCode) (line : List ℕ) (is : List Input) (rs : List Reply)
-    → Replies old a status line mid → IsSameSite mid new
+before : (a : Asked) (old mid new : SiteView) (status : StatusCode) (line : List ℕ) (is : List Input) (rs : List Reply)
+    → RepliesTo old a status line mid → IsSameSite mid new
     → Run (schema_of mid) mid.name (store_in mid) is rs (store_in new)
     → (all : List Reply) × Run (schema_of old) old.name (store_in old) (inputs_of a ++ is) all (store_in new)
     × IsSameSite old new
-before (gives i) old mid new status line is rs h same run = (
+before (Ok i) old mid new status line is rs h same run = (
   h.0 ∷ rs,
   (store_in mid, h.1, same_run old mid (store_in mid) is rs (store_in new) h.2 run),
   (same.0 ∙ h.2.0, same.1 ∙ h.2.1),
 )
-before (rejects f) old mid new status line is rs h same run =
-    let e = unchanged old mid h.1 in (
-      rs,
-      subst (λ (s : Store). Run (schema_of old) old.name s is rs (store_in new)) (ap store_in h.1)
-          (same_run old mid (store_in mid) is rs (store_in new) e run),
-      (same.0 ∙ e.0, same.1 ∙ e.1),
-    )
-before (unserved u) old mid new status line is rs h same run =
+before (Err s) old mid new status line is rs h same run =
     let e = unchanged old mid h.1 in (
       rs,
       subst (λ (s : Store). Run (schema_of old) old.name s is rs (store_in new)) (ap store_in h.1)
@@ -67,7 +57,7 @@ goes_none old bytes = record { inputs = []; replies = []; asks = (refl, refl); r
 goes_more : (n : ℕ) (old mid new : SiteView) (bytes after rest : List ℕ) (last : Bool) (out : List ℕ)
     → Exchanges answers old bytes last out mid after → Goes n mid after rest new → Goes (suc n) old bytes rest new
 goes_more n old mid new bytes after rest last out h g =
-    let a = request_of (route_stated h.head.method h.head.target) h.body in
+    let a = route_stated h.head.method h.head.target h.body in
     let all = before a old mid new h.status h.text g.inputs g.replies h.answered g.same g.run in
     record {
       inputs = inputs_of a ++ g.inputs;

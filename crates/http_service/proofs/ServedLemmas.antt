@@ -10,28 +10,24 @@ use Rattle.http_streams.specs.declared.serve.StreamFault.TheVariants as fault
 use Rattle.http_streams.proofs.Simulated.{answered}
 use Rattle.site_calls.specs.site_steps.SiteViews.{SiteView}
 use Rattle.site_calls.specs.site_steps.Inputs.{Input}
-use Rattle.http_routes.specs.Routes.{route_stated}
-use Rattle.site_calls.specs.SiteRequest.{SiteRequest, gives, rejects, unserved}
-use Rattle.http_service.specs.RequestInputs.{request_of}
-use Rattle.site_calls.specs.Answers.{Replies}
-use Rattle.http_service.specs.RequestReplies.{answers}
+use Rattle.http_service.specs.Routes.{Asked, route_stated}
+use Rattle.http_service.specs.RequestReplies.{RepliesTo, answers}
 use Rattle.http_service.specs.Streams.{inputs_of, HaveInputs, LeavesRun}
 use Rattle.http_service.specs.Serving.{Served, before_requests, Continues, ContinuesRequest, IsServed}
 use Rattle.http_service.proofs.RunLemmas.{RunsTake, rests_run, ends_run, stops_run}
 
 -- ---- each request is answered by the site
 
-replied : (a : SiteRequest) (v w : Served) (status : StatusCode) (line : List ℕ) → Continues v a status line w
-    → Replies v.site a status line w.site
-replied (gives i) v w status line h = (h.0, h.1, h.2, h.3)
-replied (rejects f) v w status line h = h.0
-replied (unserved s) v w status line h = h.0
+replied : (a : Asked) (v w : Served) (status : StatusCode) (line : List ℕ) → Continues v a status line w
+    → RepliesTo v.site a status line w.site
+replied (Ok i) v w status line h = (h.0, h.1, h.2, h.3)
+replied (Err s) v w status line h = h.0
 
 one_answer : (v w : Served) (s : SiteView) (m t body : List ℕ) (status : StatusCode) (line : List ℕ) → v.site ≡ s
     → ContinuesRequest v m t body status line w → (u : SiteView) × answers s m t body status line u × (w.site ≡ u)
 one_answer v w s m t body status line is h =
-    let a = request_of (route_stated m t) body in
-    (w.site, subst (λ (x : SiteView). Replies x a status line w.site) is (replied a v w status line h), refl)
+    let a = route_stated m t body in
+    (w.site, subst (λ (x : SiteView). RepliesTo x a status line w.site) is (replied a v w status line h), refl)
 
 -- ---- the inputs are those that the requests ask for
 
@@ -52,16 +48,15 @@ asks_none v w bytes e = record {
   joined = ap (λ (x : Served). x.inputs) e ∙ sym (append-nil v.inputs);
 }
 
-handed : (a : SiteRequest) (v w : Served) (status : StatusCode) (line : List ℕ) → Continues v a status line w
+handed : (a : Asked) (v w : Served) (status : StatusCode) (line : List ℕ) → Continues v a status line w
     → w.inputs ≡ v.inputs ++ inputs_of a
-handed (gives i) v w status line h = h.4
-handed (rejects f) v w status line h = h.1 ∙ sym (append-nil v.inputs)
-handed (unserved s) v w status line h = h.1 ∙ sym (append-nil v.inputs)
+handed (Ok i) v w status line h = h.4
+handed (Err s) v w status line h = h.1 ∙ sym (append-nil v.inputs)
 
 asks_more : (v m w : Served) (bytes after : List ℕ) (last : Bool) (out : List ℕ)
     → Exchanges ContinuesRequest v bytes last out m after → Asks m after w → Asks v bytes w
 asks_more v m w bytes after last out h k =
-    let a = request_of (route_stated h.head.method h.head.target) h.body in
+    let a = route_stated h.head.method h.head.target h.body in
     let took = handed a v m h.status h.text h.answered in
     record {
       count = suc k.count;

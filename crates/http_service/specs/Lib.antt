@@ -1,5 +1,7 @@
 pub mod inner
-pub mod RequestInputs
+pub mod Routes
+pub mod LogLines
+pub mod OneLine
 pub mod RequestReplies
 pub mod Lines
 pub mod Streams
@@ -9,7 +11,6 @@ pub use Rattle.site_calls.specs.answer_lines
 pub use Rattle.site_calls.specs.entity_data
 pub use Rattle.site_calls.specs.policy_grammar
 pub use Rattle.site_calls.specs.site_steps
-pub use Rattle.http_logs.specs as http_logs
 pub use Rattle.http_streams.specs as http_streams
 pub use Rattle.site_calls.specs as site_calls
 pub use Rattle.site_calls.specs.site

@@ -1,7 +1,7 @@
 -- Defines one call of `serve` or `serve_logged`: what it reads, what it replies, and the run of the site.
 -- Source: RFC 9112, section 9.3 (replies in the order of the requests).
 -- Rules of this product: each request is at most one step of the site.
-use Rattle.std.specs.Prelude.{◌≡◌, ℕ, List, [], ◌∷◌, ◌++◌, Option, Result}
+use Rattle.std.specs.Prelude.{◌≡◌, ℕ, List, [], ◌∷◌, ◌++◌, Option, Result, Ok, Err}
 use Rattle.http.specs.declared.status.StatusCode.{StatusCode}
 use Rattle.http_streams.specs.Serving.{IsAnswered}
 use Rattle.http_streams.specs.declared.serve.StreamFault.{StreamFault}
@@ -10,11 +10,9 @@ use Rattle.site_calls.specs.site_steps.SiteViews.{SiteView, schema_of, store_in,
 use Rattle.site_calls.specs.site_steps.Runs.{Step, Run, took}
 use Rattle.site_calls.specs.site_steps.Inputs.{Input}
 use Rattle.site_calls.specs.site_steps.declared.reply.Reply.{Reply}
-use Rattle.http_routes.specs.Routes.{route_stated}
-use Rattle.site_calls.specs.SiteRequest.{SiteRequest, gives, rejects, unserved}
-use Rattle.http_service.specs.RequestInputs.{request_of}
-use Rattle.site_calls.specs.Answers.{Replies}
+use Rattle.http_service.specs.Routes.{Asked, route_stated}
 use Rattle.site_calls.specs.Reports.{reported}
+use Rattle.http_service.specs.RequestReplies.{RepliesTo}
 
 -- A `Served` is a site served over a stream, with the inputs that requests gave it so far and its reply to each.
 pub record Served : Type 0 where
@@ -26,24 +24,22 @@ pub record Served : Type 0 where
 abbrev pub before_requests : SiteView → Served
 before_requests site = record { site = site; inputs = []; replies = [] }
 
--- `Continues old a status text new` holds if the `SiteRequest` `a` may get the reply `status` with the body `text`, and
--- `new` is the next `Served` after `old`. For `gives i` the site makes one step, and `i` and its reply are added. For
--- `rejects` and `unserved` the site is not called, and nothing is added.
-abbrev pub Continues : Served → SiteRequest → StatusCode → List ℕ → Served → Type 0
-Continues old (gives i) status text new =
+-- `Continues old asked status text new` holds if a request that asks for `asked` may get the reply `status` with the
+-- body `text`, and `new` is the next `Served` after `old`. For an input the site makes one step, and the input and its
+-- reply are added. Without an operation the site is not called, and nothing is added.
+abbrev pub Continues : Served → Asked → StatusCode → List ℕ → Served → Type 0
+Continues old (Ok i) status text new =
     (r : Reply) × Step (schema_of old.site) old.site.name (store_in old.site) i r (store_in new.site)
     × IsSameSite old.site new.site × ((status, text) ≡ reported r)
     × (new.inputs ≡ old.inputs ++ i ∷ []) × (new.replies ≡ old.replies ++ r ∷ [])
-Continues old (rejects f) status text new =
-    Replies old.site (rejects f) status text new.site × (new.inputs ≡ old.inputs) × (new.replies ≡ old.replies)
-Continues old (unserved s) status text new =
-    Replies old.site (unserved s) status text new.site × (new.inputs ≡ old.inputs) × (new.replies ≡ old.replies)
+Continues old (Err s) status text new =
+    RepliesTo old.site (Err s) status text new.site × (new.inputs ≡ old.inputs) × (new.replies ≡ old.replies)
 
 -- `ContinuesRequest old method target body status text new` is the same relation for a request with this method, target
 -- and body.
 abbrev pub ContinuesRequest : Served → List ℕ → List ℕ → List ℕ → StatusCode → List ℕ → Served → Type 0
 ContinuesRequest old method target body status text new =
-    Continues old (request_of (route_stated method target) body) status text new
+    Continues old (route_stated method target body) status text new
 
 -- The parameters from `left` to `write_fails` describe the states of a reader and a writer, as in `Serving` of
 -- http_streams.

@@ -1,6 +1,6 @@
 -- Defines the site after a stream of requests: the site after the run of their inputs.
 -- Source: RFC 9112, section 9.3.
-use Rattle.std.specs.Prelude.{◌≡◌, ℕ, suc, zero, List, [], ◌∷◌, ◌++◌}
+use Rattle.std.specs.Prelude.{◌≡◌, ℕ, suc, zero, List, [], ◌∷◌, ◌++◌, Ok, Err}
 use Rattle.httparse.specs.Grammar.{RequestHead}
 use Rattle.http_streams.specs.Request.{ReadsWhole}
 use Rattle.site_calls.specs.site_steps.stamped_store.Store.{store_of, updates}
@@ -8,15 +8,12 @@ use Rattle.site_calls.specs.site_steps.SiteViews.{SiteView, schema_of, store_in,
 use Rattle.site_calls.specs.site_steps.Runs.{Run, took}
 use Rattle.site_calls.specs.site_steps.Inputs.{Input}
 use Rattle.site_calls.specs.site_steps.declared.reply.Reply.{Reply}
-use Rattle.http_routes.specs.Routes.{route_stated}
-use Rattle.site_calls.specs.SiteRequest.{SiteRequest, gives, rejects, unserved}
-use Rattle.http_service.specs.RequestInputs.{request_of}
+use Rattle.http_service.specs.Routes.{Asked, route_stated}
 
--- `inputs_of a` is the list of the inputs of a request that asks for `a`: the input that `a` gives, or `[]`.
-abbrev pub inputs_of : SiteRequest → List Input
-inputs_of (gives i) = i ∷ []
-inputs_of (rejects f) = []
-inputs_of (unserved s) = []
+-- `inputs_of asked` is the list of the inputs of a request that asks for `asked`: that input, or `[]`.
+abbrev pub inputs_of : Asked → List Input
+inputs_of (Ok i) = i ∷ []
+inputs_of (Err s) = []
 
 -- `HaveInputs n bytes rest is` holds if `bytes` are `n` requests and then `rest`, and `is` are the inputs of the
 -- requests, in order.
@@ -24,7 +21,7 @@ abbrev pub HaveInputs : ℕ → List ℕ → List ℕ → List Input → Type 0
 HaveInputs zero bytes rest is = (bytes ≡ rest) × (is ≡ [])
 HaveInputs (suc n) bytes rest is =
     (head : RequestHead) × (body : List ℕ) × (after : List ℕ) × (more : List Input) × ReadsWhole bytes head body after
-    × (is ≡ inputs_of (request_of (route_stated head.method head.target) body) ++ more) × HaveInputs n after rest more
+    × (is ≡ inputs_of (route_stated head.method head.target body) ++ more) × HaveInputs n after rest more
 
 -- `LeavesRun old bytes new` holds if a run of the inputs of the first `count` requests in `bytes` leads from the site
 -- `old` to `new`. The store of `new` is the join of the updates that `old` had and those that the run applied.

@@ -1,1 +1,1 @@
-pub mod LoggedAnswers
+pub mod AppendedAnswers

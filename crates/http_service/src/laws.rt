@@ -2,9 +2,9 @@
 ghost use Rattle.std.specs.Prelude.{◌≡◌, ◌≤◌, ◌++◌, ℕ, Bool, List, Result, length};
 ghost use Rattle.std.specs.Io.KnownBytes.{Consumes};
 ghost use Rattle.http.specs.declared.status.StatusCode.{StatusCode};
-ghost use Rattle.http_logs.specs.LogLines.{IsLogLine, head_text, text_of};
-ghost use Rattle.http_logs.specs.OneLine.{IsOneLine};
-ghost use Rattle.http_routes.specs.Routes.{route_stated};
+ghost use Rattle.http_service.specs.LogLines.{IsLogLine, head_text, text_of};
+ghost use Rattle.http_service.specs.OneLine.{IsOneLine};
+ghost use Rattle.http_service.specs.Routes.{route_stated};
 ghost use Rattle.http_streams.specs.Laws.{AgreeOn, AnswersAll, BeginsAnswer, HasOneAnswer, StopsIn, in_memory};
 ghost use Rattle.http_streams.specs.Serving.{IsAnswered};
 ghost use Rattle.http_streams.specs.Stream.{EndsByReply, AnswersAllRequests, StopsWithinReply};
@@ -18,7 +18,6 @@ ghost use Rattle.site_calls.specs.site_steps.declared.reply.Reply.{Reply};
 ghost use Rattle.site_calls.specs.site_steps.schema.Views.{IsStated};
 ghost use Rattle.site_calls.specs.site_steps.Permitted.{IsPermittedReply};
 ghost use Rattle.site_calls.specs.Answers.{Replies};
-ghost use Rattle.site_calls.specs.SiteRequest.{gives};
 ghost use Rattle.site_calls.specs.Reports.{reported};
 ghost use Rattle.http_service.specs.RequestReplies.{IsAlike, answers};
 ghost use Rattle.http_service.specs.Lines.{IsChange, stamped_end};
@@ -99,7 +98,7 @@ pub fn cuts_make_no_difference()
 /// The reply is that of one step. If it is an answer, each error in it is `EntityDoesNotExist` or `ArithBoundsError`.
 pub fn served_answers_are_sound()
     ensures { (old new : SiteView) (input : Input) (status : StatusCode) (line : List ℕ) → IsStated old.schema
-        → Replies old (gives input) status line new
+        → Replies old input status line new
         → (reply : Reply) × IsPermittedReply reply × ((status, line) ≡ reported reply) }
 {
     runs_are_sound();
@@ -114,7 +113,7 @@ pub fn change_lines_have_stamps()
     ensures put { (s : Stamp) (impossible : Bool) → IsSiteName s.site → s.count ≤ most_count
         → length (put_line s impossible) ≤ 128 }
     ensures line { (old new : SiteView) (method target body reply line : List ℕ) → IsSiteName old.name
-        → IsChange (route_stated method target) → answers old method target body 200 reply new
+        → IsChange (route_stated method target body) → answers old method target body 200 reply new
         → IsLogLine method target body 200 reply line
         → line ≡ head_text (text_of method) (text_of target) ++ stamped_end reply }
 {}

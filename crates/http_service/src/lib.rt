@@ -1,11 +1,18 @@
-//! The HTTP service over a site: a handler for each route, and the answers to streams of requests.
+//! The HTTP service over a site: what requests ask for, the answers to requests and to streams of requests, and the
+//! line that a log gets for each request.
 //!
-//! Nothing here opens a socket. specs/ defines the call that a request asks for; `site_calls` defines the reply to a
-//! call, which makes at most one step of the site.
+//! Nothing here opens a socket or writes to a file: lines are made in memory, and a stream writes each before its
+//! reply. `site_calls` defines the reply to an input of a site, which is one step of the site.
 #![tactic(auto)]
 
 mod handlers;
 mod laws;
+mod log_laws;
+mod log_line;
+mod log_pieces;
+mod path;
+mod route;
+mod routing;
 mod serving;
 mod site_service;
 
@@ -19,10 +26,22 @@ pub use laws::{
     served_answers_are_sound, served_lines_are_one_line, served_streams_are_answered,
     streams_leave_runs,
 };
+pub use log_laws::{decision_lines_name_requests, lines_have_one_line_feed};
+pub use route::Route;
+pub use routing::route_of;
 pub use serving::{serve, serve_logged};
 pub use site_calls::{
     Answer, Event, EventReply, Found, Input, LINE_ROOM, Operation, Put, Refusal, Reply, Site,
     SiteFault, SiteName, Stamp, Taken, World, answer_line, error_line, report_fault, report_put,
-    report_stamp, report_taken, run, simulate, take_bytes,
+    report_stamp, report_taken, simulate,
 };
 pub use site_service::{LoggedService, SiteService};
+
+/// An upper bound of the bytes of a line without method and target.
+pub const MOST_UNREAD_LINE: usize = 64;
+
+/// An upper bound of the bytes that follow method and target in a line that reports a change, or only a status.
+pub const MOST_TAIL: usize = 192;
+
+/// An upper bound of the bytes in the body of a reply to a change.
+pub const MOST_STAMP: usize = 128;

@@ -1,12 +1,12 @@
 //! Streams of requests to a site.
 ghost use Rattle.std.specs.Prelude.{◌≡◌, ◌≢◌, ◌≤◌, Err};
 ghost use Rattle.std.specs.Vec.{vec_capacity};
-ghost use Rattle.http_logs.specs.LogLines.{IsLogLine, unread_line};
+ghost use Rattle.http_service.specs.LogLines.{IsLogLine, unread_line};
 ghost use Rattle.http_streams.specs.Logs.{IsLogged};
 ghost use Rattle.http_service.specs.Serving.{IsServed};
 
+use crate::MOST_UNREAD_LINE;
 use crate::site_service::{LoggedService, SiteService};
-use http_logs::MOST_UNREAD_LINE;
 use http_streams::serve::{
     StreamFault, serve as serve_stream, serve_logged as serve_stream_logged,
 };

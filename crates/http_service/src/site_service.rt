@@ -1,11 +1,11 @@
 //! A site as an HTTP service.
 ghost use Rattle.std.specs.Prelude.{◌≡◌, ◌≤◌, []};
 ghost use Rattle.std.specs.Vec.{vec_capacity};
-ghost use Rattle.http_logs.specs.LogLines.{unread_line};
+ghost use Rattle.http_service.specs.LogLines.{unread_line};
 
 use crate::handlers::{answer, answer_with_line};
+use crate::log_line::put_unread_line;
 use http::StatusCode;
-use http_logs::put_unread_line;
 use http_streams::service::{Answers, Service};
 use json_words::Scratch;
 use site_calls::Site;
@@ -88,7 +88,7 @@ impl Answers for LoggedService<'_> {
 }
 
 impl Service for LoggedService<'_> {
-    ghost use Rattle.http_logs.specs.LogLines.{IsLogLine, unread_line};
+    ghost use Rattle.http_service.specs.LogLines.{IsLogLine, unread_line};
 
     ghost lines = { IsLogLine };
 

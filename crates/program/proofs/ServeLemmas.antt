@@ -8,7 +8,7 @@ use Rattle.state_exchanges.specs.http_streams.declared.devices.Sink.{Ghosts as S
 use Rattle.state_exchanges.specs.http_streams.Logs.{IsLogged}
 use Rattle.state_exchanges.specs.http_streams.declared.serve.StreamFault.{StreamFault}
 use Rattle.state_exchanges.specs.http_streams.declared.serve.StreamFault.TheVariants as stream_fault
-use Rattle.program_drills.specs.http_service.http_logs.LogLines.{IsLogLine, unread_line}
+use Rattle.program_drills.specs.http_service.LogLines.{IsLogLine, unread_line}
 use Rattle.program_drills.specs.http_service.answer_lines.declared.refusal.Refusal.{Refusal}
 use Rattle.program_drills.specs.http_service.answer_lines.Refusals.{no_memory}
 use Rattle.site_loading.specs.schema.Schemas.{StatedSchema, IsSchemaOf}
@@ -23,6 +23,7 @@ use Rattle.site_loading.specs.site_steps.declared.fault.SiteFault.{SiteFault}
 use Rattle.site_loading.specs.site_steps.declared.fault.SiteFault.TheVariants.{NoMemory, Policy, Check as Unfit, Entity}
 use Rattle.site_loading.specs.site_steps.declared.fault.SiteFault.TheVariants.{Message, NotThere, WouldCycle, ClockFull}
 use Rattle.site_loading.specs.site_steps.declared.fault.SiteFault.TheVariants.{Request}
+use Rattle.program_drills.specs.http_service.site_steps.Readings.{parsed}
 use Rattle.program_drills.specs.http_service.site_steps.Runs.{IsNoMessageOf}
 use Rattle.program_drills.specs.http_service.site_steps.sync_messages.Messages.{IsMessageOf}
 use Rattle.program.specs.declared.device.Link.{Link}
@@ -236,7 +237,7 @@ none_long : {A : Type 0} (xs : List A) → length xs ≡ 0 → xs ≡ []
 none_long [] e = refl
 none_long (x ∷ xs) e = absurd cc
 
-state_refused : (s : StatedSchema) (bytes : List ℕ) (fault : SiteFault) → IsNoMessageOf s bytes fault → (site_refusal fault ≡ no_memory → ⊥)
+state_refused : (s : StatedSchema) (bytes : List ℕ) (fault : SiteFault) → IsNoMessageOf (parsed s) bytes fault → (site_refusal fault ≡ no_memory → ⊥)
     → IsStateRefused s (Some bytes) (site_refusal fault)
 state_refused s bytes NoMemory none other = absurd (other refl)
 state_refused s bytes (Message f) none other = (f, none, refl)
@@ -248,7 +249,7 @@ state_refused s bytes WouldCycle none other = absurd none
 state_refused s bytes ClockFull none other = absurd none
 state_refused s bytes (Request f) none other = absurd none
 
-pub refused_as_told : (s : StatedSchema) (bytes : List ℕ) (fault : SiteFault) (r : Refusal) → r ≡ site_refusal fault → IsNoMessageOf s bytes fault
+pub refused_as_told : (s : StatedSchema) (bytes : List ℕ) (fault : SiteFault) (r : Refusal) → r ≡ site_refusal fault → IsNoMessageOf (parsed s) bytes fault
     → (r ≡ no_memory → ⊥) → IsStateRefused s (Some bytes) r
 refused_as_told s bytes fault r is none other =
     subst (IsStateRefused s (Some bytes)) (sym is) (state_refused s bytes fault none (λ e. other (is ∙ e)))

@@ -17,8 +17,7 @@ use Rattle.site_loading.specs.site_steps.Faults.{code_of, place_of, within_of}
 use Rattle.site_loading.specs.site_steps.SiteViews.{SiteView, schema_of, store_in}
 use Rattle.site_loading.specs.site_steps.declared.fault.SiteFault.{SiteFault}
 use Rattle.site_loading.specs.site_steps.declared.fault.SiteFault.TheVariants.{Message}
-use Rattle.program_drills.specs.http_service.site_steps.Runs.{IsNoMessageOf}
-use Rattle.program_drills.specs.http_service.site_steps.sync_messages.Messages.{IsMessageOf}
+use Rattle.program_drills.specs.http_service.site_steps.sync_messages.Messages.{IsMessageOf, IsMessageFaultOf}
 use Rattle.program.specs.Courses.{Course}
 use Rattle.program.specs.ExplainOption.{schema_files, IsRefusalText, IsErrorThenText}
 
@@ -44,7 +43,7 @@ pub record IsInitialSite (schema : List ℕ) (name : List ℕ) (state : Option (
 abbrev pub IsStateRefused : StatedSchema → Option (List ℕ) → Refusal → Type 0
 IsStateRefused s None r = ⊥
 IsStateRefused s (Some bytes) r =
-    (f : MessageFault) × IsNoMessageOf s bytes (Message f) × (r ≡ site_refusal (Message f))
+    (f : MessageFault) × IsMessageFaultOf s bytes f × (r ≡ site_refusal (Message f))
 
 -- `IsInitialSiteRefused schema state r` holds if `r` is the error of `schema` or, if that has none, the error of
 -- `state` as a message under this schema.

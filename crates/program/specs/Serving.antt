@@ -14,7 +14,7 @@ use Rattle.program_lines.specs.declared.line.ServeOptions.{ServeOptions}
 use Rattle.program_lines.specs.stamped_store.Stamping.{has_stamps_of}
 use Rattle.site_loading.specs.site_steps.SiteViews.{SiteView, store_in}
 use Rattle.program_drills.specs.http_service.Serving.{IsServed}
-use Rattle.program_drills.specs.http_service.http_logs.LogLines.{IsLogLine, unread_line}
+use Rattle.program_drills.specs.http_service.LogLines.{IsLogLine, unread_line}
 use Rattle.state_exchanges.specs.http_streams.Logs.{IsLogged}
 use Rattle.program.specs.declared.device.Link.{Link}
 use Rattle.program.specs.declared.device.Stream.TheVariants.{Faults}

@@ -6,7 +6,7 @@ ghost use Rattle.program.specs.InitialSites.{IsInitialSite, IsInitialSiteRefused
 ghost use Rattle.program.specs.inner.InitialUpdates.{TakesState};
 
 use plain::{NoMemory, Shared};
-use program_drills::{Refusal, Site, SiteFault, Taken, take_bytes};
+use program_drills::{Refusal, Site, SiteFault, Taken};
 use program_lines::SiteName;
 use site_loading::schema_in;
 use std::alloc::Global;
@@ -23,12 +23,12 @@ fn site_refusal(fault: SiteFault) -> Refusal
 }
 
 /// Returns the site after it applied the updates of a message.
-fn with_state(alloc: Global, mut site: Site, bytes: &[u8]) -> Result<Site, Refusal>
+fn with_state(mut site: Site, bytes: &[u8]) -> Result<Site, Refusal>
     ensures taken { IfOk result (TakesState site bytes.now) }
     ensures refused { IfErr result
         (λ r. (r ≡ no_memory → ⊥) → IsStateRefused (schema_of site) (Some bytes.now) r) }
 {
-    match take_bytes(alloc, &mut site, bytes) {
+    match site.take_bytes(bytes) {
         Ok(Taken::All(_)) => Ok(site),
         Ok(Taken::Short(_)) => Err(Refusal::from(NoMemory)),
         Err(fault) => Err(site_refusal(fault)),
@@ -54,7 +54,7 @@ pub(crate) fn initial_site(
     let schema = Shared::new(alloc, schema)?;
     let mut site = Site::new(alloc, schema, name.as_str());
     match state {
-        Some(bytes) => with_state(alloc, site, bytes),
+        Some(bytes) => with_state(site, bytes),
         None => {
             site.rebuild();
             Ok(site)

@@ -11,7 +11,7 @@ use Rattle.http_service.specs.site.declared.event.Operation.TheVariants as opera
 use Rattle.http_service.specs.site.declared.event.Event.{Event}
 use Rattle.program_drills.specs.declared.made.MadeCounts.{MadeCounts}
 use Rattle.program_drills.specs.Lines.{lines}
-use Rattle.program_drills.specs.ScriptLines.{ScriptOperation, plain, put_entity, authorize, ScriptLine, script_line_of, after_operation, after_script_operation}
+use Rattle.program_drills.specs.ScriptLines.{ScriptOperation, plain, put_entity, delete_entity, authorize, ScriptLine, script_line_of, after_operation, after_script_operation}
 use Rattle.program_drills.specs.ScriptLines.{IsOperationOf, IsEventOf}
 use Rattle.program_drills.specs.Scripts.{script_lines_from, none_made, script_of, AreEventsOf, IsScriptRefused}
 use Rattle.program_drills.specs.inner.Reading.{IsLineRead, onto, IsReadUpTo}
@@ -20,29 +20,20 @@ use Rattle.program_drills.specs.inner.Reading.{IsLineRead, onto, IsReadUpTo}
 after_same : (made : MadeCounts) (asked : ScriptOperation) (d : Operation) → IsOperationOf asked d → after_operation made d ≡ after_script_operation made asked
 after_same made (plain asked) d is = ap (after_operation made) is
 after_same made (put_entity json) d is = ap (after_operation made) is.1
+after_same made (delete_entity json) d is = ap (after_operation made) is.1
 after_same made (authorize json) d is = ap (after_operation made) is.1
 
 messages_after : (made : MadeCounts) (d : Operation) → (after_operation made d).messages ≤ made.messages + 1
-messages_after made (operation.PutPolicy id text) = omega arith
-messages_after made (operation.DeletePolicy id) = omega arith
-messages_after made (operation.PutEntity bytes) = omega arith
-messages_after made (operation.DeleteEntity uid) = omega arith
-messages_after made (operation.Authorize bytes) = omega arith
 messages_after made operation.Summary = omega arith
 messages_after made operation.Offer = omega arith
 messages_after made (operation.OfferDelta k) = omega arith
-messages_after made (operation.Deliver k) = omega arith
+messages_after made _ = omega arith
 
 summaries_after : (made : MadeCounts) (d : Operation) → (after_operation made d).summaries ≤ made.summaries + 1
-summaries_after made (operation.PutPolicy id text) = omega arith
-summaries_after made (operation.DeletePolicy id) = omega arith
-summaries_after made (operation.PutEntity bytes) = omega arith
-summaries_after made (operation.DeleteEntity uid) = omega arith
-summaries_after made (operation.Authorize bytes) = omega arith
 summaries_after made operation.Summary = omega arith
 summaries_after made operation.Offer = omega arith
 summaries_after made (operation.OfferDelta k) = omega arith
-summaries_after made (operation.Deliver k) = omega arith
+summaries_after made _ = omega arith
 
 pub zip_more : {A B : Type 0} (R : A → B → Type 0) (xs : List A) (ys : List B) (x : A) (y : B) → AllZip R xs ys → R x y
     → AllZip R (xs ++ x ∷ []) (ys ++ y ∷ [])

@@ -2,14 +2,12 @@
 -- Source: docs/formats.md, "Scripts of `drill`".
 -- Rules of this product: a line is a JSON object, with the number of a site at `site`, an operation at `do`, and its
 -- arguments at further keys. Other keys are ignored.
-use Rattle.std.specs.Prelude.{◌≡◌, ℕ, ◌+◌, ◌&&◌, List, [], Option, Some, None, option_map, option_and_then}
+use Rattle.std.specs.Prelude.{◌≡◌, ℕ, ◌+◌, ◌&&◌, List, Option, Some, None, option_map, option_and_then}
 use Rattle.std.specs.Prelude.{codes, nat_le, nat_lt, if◌then◌else◌}
 use Rattle.std.specs.Str.{bytes_eq}
 use Rattle.serde_json.specs.Data.{Data}
 use Rattle.serde_json.specs.Find.{get, as_number, as_u64}
 use Rattle.json_words.specs.Json.{json_of, text_at}
-use Rattle.schema_decisions.specs.entity_uids.Uids.{uid_in}
-use Rattle.values.specs.declared.entity_uid.EntityUid.{EntityUid}
 use Rattle.http_service.specs.site.declared.event.Operation.{Operation}
 use Rattle.http_service.specs.site.declared.event.Operation.TheVariants as operation
 use Rattle.http_service.specs.site.declared.event.Event.{Event}
@@ -27,11 +25,12 @@ after_operation made _ = made
 
 -- ---- the operation that a line asks for
 
--- A `ScriptOperation` is what a line asks for: the JSON of an entity to put, the JSON of a request to decide, or any
--- other operation. An `Operation` has bytes in place of this JSON.
+-- A `ScriptOperation` is what a line asks for: the JSON of an entity to put, of the uid of an entity to delete, or of a
+-- request to decide; or any other operation. An `Operation` has bytes in place of this JSON.
 pub data ScriptOperation : Type 0 where
   plain : Operation → ScriptOperation
   put_entity : Data → ScriptOperation
+  delete_entity : Data → ScriptOperation
   authorize : Data → ScriptOperation
 
 -- `after_script_operation made a` counts the messages and summaries after the operation `a` of a line, where `made`
@@ -61,12 +60,6 @@ policy_put (Some id) (Some text) = Some (plain (operation.PutPolicy id text))
 abbrev pub policy_deleted : List ℕ → ScriptOperation
 policy_deleted id = plain (operation.DeletePolicy id)
 
--- `entity_deleted o` is the deletion of the entity `o`; or, for JSON that is not a uid (`None`), a put of no bytes,
--- which is rejected as a deletion with such JSON is: with `BadShape` (30).
-abbrev pub entity_deleted : Option EntityUid → ScriptOperation
-entity_deleted None = plain (operation.PutEntity [])
-entity_deleted (Some uid) = plain (operation.DeleteEntity uid)
-
 -- `delta_offered k` is the offer of a delta against summary `k`.
 abbrev pub delta_offered : ℕ → ScriptOperation
 delta_offered k = plain (operation.OfferDelta k)
@@ -82,8 +75,7 @@ operation_named made word d =
     if bytes_eq word (codes "put_policy") then policy_put (text_at (codes "id") d) (text_at (codes "text") d)
     else if bytes_eq word (codes "delete_policy") then option_map policy_deleted (text_at (codes "id") d)
     else if bytes_eq word (codes "put_entity") then option_map put_entity (get (codes "entity") d)
-    else if bytes_eq word (codes "delete_entity") then
-    option_map (λ uid. entity_deleted (uid_in uid)) (get (codes "uid") d)
+    else if bytes_eq word (codes "delete_entity") then option_map delete_entity (get (codes "uid") d)
     else if bytes_eq word (codes "authorize") then option_map authorize (get (codes "request") d)
     else if bytes_eq word (codes "summary") then Some (plain operation.Summary)
     else if bytes_eq word (codes "offer") then Some (plain operation.Offer)
@@ -123,6 +115,8 @@ script_line_of n made line = option_and_then (script_line_in n made) (json_of li
 abbrev pub IsOperationOf : ScriptOperation → Operation → Type 0
 IsOperationOf (plain asked) d = d ≡ asked
 IsOperationOf (put_entity json) d = (bytes : List ℕ) × (d ≡ operation.PutEntity bytes) × (json_of bytes ≡ Some json)
+IsOperationOf (delete_entity json) d =
+    (bytes : List ℕ) × (d ≡ operation.DeleteEntity bytes) × (json_of bytes ≡ Some json)
 IsOperationOf (authorize json) d = (bytes : List ℕ) × (d ≡ operation.Authorize bytes) × (json_of bytes ≡ Some json)
 
 -- `IsEventOf said e` holds if `e` is the event that the line `said` describes.

@@ -10,6 +10,6 @@ mod whole;
 
 pub use drilling::drill_text;
 pub use http_service::{
-    Refusal, Site, SiteFault, StreamFault, Taken, error_line, serve, serve_logged, take_bytes,
+    Refusal, Site, SiteFault, StreamFault, Taken, error_line, serve, serve_logged,
 };
 pub use schema_decisions::{check_texts, decide_under};

@@ -5,9 +5,8 @@ ghost use Rattle.serde_json.specs.Find.{get};
 ghost use Rattle.serde_json.specs.Read.{max_depth};
 ghost use Rattle.serde_json.specs.View.{view};
 ghost use Rattle.json_words.specs.Json.{json_of, text_at};
-ghost use Rattle.schema_decisions.specs.entity_uids.Uids.{uid_in};
 ghost use Rattle.program_drills.specs.ScriptLines.{operation_named, authorize, delivered, delta_offered};
-ghost use Rattle.program_drills.specs.ScriptLines.{entity_deleted, number_in};
+ghost use Rattle.program_drills.specs.ScriptLines.{delete_entity, number_in};
 ghost use Rattle.program_drills.specs.ScriptLines.{policy_deleted, policy_put, put_entity, script_line_in};
 ghost use Rattle.program_drills.specs.ScriptLines.{script_line_of, within};
 ghost use Rattle.program_drills.specs.inner.Reading.{IsReadAs, IsLineRead, AreBytesOf};
@@ -15,8 +14,7 @@ ghost use Rattle.program_drills.specs.inner.Reading.{IsReadAs, IsLineRead, AreBy
 use crate::made::MadeCounts;
 use http_service::{Event, Operation};
 use json_words::{read_json, text_at, write_json};
-use plain::{Items, NoMemory, Text};
-use schema_decisions::read_uid;
+use plain::{Items, NoMemory};
 use serde_json::Value;
 use std::alloc::Global;
 
@@ -55,6 +53,15 @@ fn bytes_at(alloc: Global, value: &Value, key: &str) -> Result<Option<Items<u8>>
     Ok(Some(Items::from_vec(bytes)))
 }
 
+/// Returns a copy of the bytes of a string.
+fn bytes_of(alloc: Global, text: &str) -> Result<Items<u8>, NoMemory>
+    ensures { IfOk result (λ bytes. bytes ≡ text.now) }
+{
+    let mut bytes = Vec::new(alloc);
+    bytes.extend_from_slice(text.as_bytes())?;
+    Ok(Items::from_vec(bytes))
+}
+
 /// Returns the put of a policy, if its id and its text are present.
 fn policy_put(alloc: Global, value: &Value) -> Result<Option<Operation>, NoMemory>
     ensures { IfOk result (IsReadAs
@@ -66,8 +73,8 @@ fn policy_put(alloc: Global, value: &Value) -> Result<Option<Operation>, NoMemor
     let Some(text) = text_at(value, "text") else {
         return Ok(None);
     };
-    let id = Text::from_str(alloc, id)?;
-    let text = Text::from_str(alloc, text)?;
+    let id = bytes_of(alloc, id)?;
+    let text = bytes_of(alloc, text)?;
     Ok(Some(Operation::PutPolicy(id, text)))
 }
 
@@ -78,7 +85,7 @@ fn policy_deleted(alloc: Global, value: &Value) -> Result<Option<Operation>, NoM
     let Some(id) = text_at(value, "id") else {
         return Ok(None);
     };
-    let id = Text::from_str(alloc, id)?;
+    let id = bytes_of(alloc, id)?;
     Ok(Some(Operation::DeletePolicy(id)))
 }
 
@@ -93,18 +100,14 @@ fn entity_put(alloc: Global, value: &Value) -> Result<Option<Operation>, NoMemor
     }
 }
 
-/// Returns the deletion of an entity, if the uid is present. JSON that is not a uid gives a put of no bytes, which is
-/// rejected as a deletion with such JSON is: with `BadShape` (30).
+/// Returns the deletion of an entity, if the JSON of a uid is present.
 fn entity_deleted(alloc: Global, value: &Value) -> Result<Option<Operation>, NoMemory>
-    ensures { IfOk result (IsReadAs
-        (option_map (λ uid. entity_deleted (uid_in uid)) (get (codes "uid") (view value.now)))) }
+    requires { depth (view value.now) ≤ max_depth }
+    ensures { IfOk result (IsReadAs (option_map delete_entity (get (codes "uid") (view value.now)))) }
 {
-    let Some(named) = value.get("uid") else {
-        return Ok(None);
-    };
-    match read_uid(alloc, named)? {
-        Some(uid) => Ok(Some(Operation::DeleteEntity(uid))),
-        None => Ok(Some(Operation::PutEntity(Items::new(alloc)))),
+    match bytes_at(alloc, value, "uid")? {
+        Some(bytes) => Ok(Some(Operation::DeleteEntity(bytes))),
+        None => Ok(None),
     }
 }
 

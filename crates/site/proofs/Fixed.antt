@@ -8,6 +8,7 @@ use Rattle.site_steps.specs.stamped_store.Store.{Store, store_of, updates}
 use Rattle.site_steps.specs.message_format.Summaries.{summary_text, summary_stated}
 use Rattle.site_steps.specs.message_format.Messages.{state_text, delta_text}
 use Rattle.site_steps.specs.declared.fault.SiteFault.{SiteFault}
+use Rattle.site_steps.specs.Readings.{parsed}
 use Rattle.site_steps.specs.Inputs.{Input}
 use Rattle.site_steps.specs.Inputs as input
 use Rattle.site_steps.specs.declared.reply.Reply.{Reply}
@@ -65,7 +66,8 @@ module _ (schema : StatedSchema) (name : SiteName) (s : Store) where
   one_text : (bytes a b : List ℕ) → Writes bytes (Ok a) → Writes bytes (Ok b) → a ≡ b
   one_text bytes a b h k = h ∙ sym k
 
-  one_delta : (bytes a b : List ℕ) → WritesDelta schema s bytes (Ok a) → WritesDelta schema s bytes (Ok b) → a ≡ b
+  one_delta : (bytes a b : List ℕ) → WritesDelta (parsed schema) s bytes (Ok a)
+      → WritesDelta (parsed schema) s bytes (Ok b) → a ≡ b
   one_delta bytes a b h k =
       let same = ok_same h.0 k.0 (summary_stated schema.label bytes) h.1 k.1 in
       h.2 ∙ ap (λ (m : deltas.Summary). delta_text schema.label (deltas.delta s m)) same ∙ sym k.2
@@ -92,7 +94,7 @@ module _ (schema : StatedSchema) (name : SiteName) (s : Store) where
   summary_written (reply.Written x) t h = (x, refl, h.0)
 
   delta_written : (bytes : List ℕ) (r : Reply) (t : Store) → Step schema name s (input.Delta bytes) r t
-      → IsWritten (WritesDelta schema s bytes) r
+      → IsWritten (WritesDelta (parsed schema) s bytes) r
   delta_written bytes (reply.Put x) t h = absurd h
   delta_written bytes (reply.Stamped x) t h = absurd h
   delta_written bytes (reply.Taken x) t h = absurd h
@@ -132,7 +134,7 @@ module _ (schema : StatedSchema) (name : SiteName) (s : Store) where
     by_delta place bytes h k e =
         let a = delta_written bytes r t h in
         let b = delta_written bytes x u k in
-        joined a.0 b.0 a.1 b.1 (delta_offered (WritesDelta schema s bytes) (one_delta bytes) m n place a.0 b.0 a.2 b.2
+        joined a.0 b.0 a.1 b.1 (delta_offered (WritesDelta (parsed schema) s bytes) (one_delta bytes) m n place a.0 b.0 a.2 b.2
         (rewritten (operation.OfferDelta place) a.0 b.0 a.1 b.1 e))
 
 summary_found : (o : Option SentSummary) (i : Input) → option_map input.Delta (option_map (λ (m : SentSummary). m.bytes) o) ≡ Some i
@@ -146,7 +148,7 @@ module _ (schema : StatedSchema) (w : World) (name : SiteName) (s : Store) (r x 
   reply_same (operation.PutPolicy id text) is h k e = replied_same r x e
   reply_same (operation.DeletePolicy id) is h k e = replied_same r x e
   reply_same (operation.PutEntity bytes) is h k e = replied_same r x e
-  reply_same (operation.DeleteEntity uid) is h k e = replied_same r x e
+  reply_same (operation.DeleteEntity bytes) is h k e = replied_same r x e
   reply_same (operation.Authorize bytes) is h k e = replied_same r x e
   reply_same (operation.Deliver place) is h k e = replied_same r x e
   reply_same operation.Summary is h k e =
@@ -183,7 +185,7 @@ module _ (schema : StatedSchema) (left : LeavesWhatItTook schema) (sites : List 
     there None p q is h k = h.1 ∙ sym k.1
 
     happens_once : Happens (Step schema) sites w e a v → Happens (Step schema) sites w e a v2 → v ≡ v2
-    happens_once h k = there (numbered sites e.site) (numbered w.stores e.site) (input_of w e.operation) refl h.happens k.happens
+    happens_once h k = there (numbered sites e.site) (numbered w.stores e.site) (input_of w e.operation) refl h k
 
   leads_once : (w : World) (es : List Event) (rs : List EventReply) (v v2 : World) → Leads (Step schema) sites w es rs v
       → Leads (Step schema) sites w es rs v2 → v ≡ v2

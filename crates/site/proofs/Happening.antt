@@ -26,7 +26,7 @@ use Rattle.site.specs.declared.event.EventReply.TheVariants.{Unknown}
 use Rattle.site_steps.specs.stamped_store.SiteNames.{IsSiteName}
 use Rattle.site.specs.Sites.{SiteName, AreSites, numbered, set_numbered, SentSummary, SentMessage, World}
 use Rattle.site.specs.Sites.{content, part_since}
-use Rattle.site.specs.Worlds.{HasTexts, input_of, answer_of, after, IsStepAt, HappensAt}
+use Rattle.site.specs.Worlds.{input_of, answer_of, after, IsStepAt, HappensAt}
 use Rattle.site.proofs.Growing.{Has, StoreLaws, has_update}
 use Rattle.site.proofs.Issued.{Issue, at_site, issues_of}
 use Rattle.site.proofs.Keeping.{AllIssued, Keeps, keeps_issued, keeps_same, keeps_taken, keeps_message}
@@ -238,23 +238,23 @@ module _ (schema : StatedSchema) (sites : List SiteName) (are : AreSites sites) 
       message_there k None a v is h = unknown (operation.Deliver k) a v h
       message_there k (Some m) a v is h = finish (operation.Deliver k) (input.Take m.bytes) a v h (delivered k m h.reply h.store is h.step)
 
-      pub keeps_there : (d : Operation) (a : EventReply) (v : World) → HasTexts d → HappensAt (Step schema) w (Event_at d) (Some n) (Some s) (input_of w d) a v
+      pub keeps_there : (d : Operation) (a : EventReply) (v : World) → HappensAt (Step schema) w (Event_at d) (Some n) (Some s) (input_of w d) a v
           → KeepsAll (log ++ issues_of schema sites (Event_at d) a) v
-      keeps_there (operation.PutPolicy id text) a v written h = finish (operation.PutPolicy id text) (input.PutPolicy id text) a v h
+      keeps_there (operation.PutPolicy id text) a v h = finish (operation.PutPolicy id text) (input.PutPolicy id text) a v h
           (commanded h.store (took_by schema (input.PutPolicy id text) h.reply)
-          (policy_put schema commands n (named_at sites are i n here) s h.store fit_there id text h.reply written.0 written.1 h.step))
-      keeps_there (operation.DeletePolicy id) a v written h = finish (operation.DeletePolicy id) (input.DeletePolicy id) a v h
+          (policy_put schema commands n (named_at sites are i n here) s h.store fit_there id text h.reply h.step))
+      keeps_there (operation.DeletePolicy id) a v h = finish (operation.DeletePolicy id) (input.DeletePolicy id) a v h
           (commanded h.store (took_by schema (input.DeletePolicy id) h.reply)
           (policy_deleted schema commands n (named_at sites are i n here) s h.store fit_there id h.reply h.step))
-      keeps_there (operation.PutEntity bytes) a v written h = finish (operation.PutEntity bytes) (input.PutEntity bytes) a v h
+      keeps_there (operation.PutEntity bytes) a v h = finish (operation.PutEntity bytes) (input.PutEntity bytes) a v h
           (commanded h.store (took_by schema (input.PutEntity bytes) h.reply)
           (entity_put schema commands n (named_at sites are i n here) s h.store bytes h.reply h.step))
-      keeps_there (operation.DeleteEntity uid) a v written h = finish (operation.DeleteEntity uid) (input.DeleteEntity uid) a v h
-          (commanded h.store (took_by schema (input.DeleteEntity uid) h.reply)
-          (entity_deleted schema commands n (named_at sites are i n here) s h.store fit_there uid h.reply h.step))
-      keeps_there (operation.Authorize bytes) a v written h = finish (operation.Authorize bytes) (input.Authorize bytes) a v h
+      keeps_there (operation.DeleteEntity bytes) a v h = finish (operation.DeleteEntity bytes) (input.DeleteEntity bytes) a v h
+          (commanded h.store (took_by schema (input.DeleteEntity bytes) h.reply)
+          (entity_deleted schema commands n (named_at sites are i n here) s h.store fit_there bytes h.reply h.step))
+      keeps_there (operation.Authorize bytes) a v h = finish (operation.Authorize bytes) (input.Authorize bytes) a v h
           (asked h.store (left_same (input.Authorize bytes) h.reply h.store refl h.step))
-      keeps_there operation.Summary a v written h = finish operation.Summary input.Summary a v h (summed h.reply h.store h.step)
-      keeps_there operation.Offer a v written h = finish operation.Offer input.State a v h (offered h.reply h.store h.step)
-      keeps_there (operation.OfferDelta k) a v written h = since_there k (slice_get w.summaries k) a v refl h
-      keeps_there (operation.Deliver k) a v written h = message_there k (slice_get w.messages k) a v refl h
+      keeps_there operation.Summary a v h = finish operation.Summary input.Summary a v h (summed h.reply h.store h.step)
+      keeps_there operation.Offer a v h = finish operation.Offer input.State a v h (offered h.reply h.store h.step)
+      keeps_there (operation.OfferDelta k) a v h = since_there k (slice_get w.summaries k) a v refl h
+      keeps_there (operation.Deliver k) a v h = message_there k (slice_get w.messages k) a v refl h

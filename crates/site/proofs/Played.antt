@@ -21,7 +21,7 @@ use Rattle.site.specs.declared.event.EventReply.{EventReply}
 use Rattle.site.specs.declared.event.EventReply.TheVariants.{Unknown}
 use Rattle.site.specs.Sites.{SiteName, first_sites, numbered, set_numbered, SentSummary, SentMessage, World}
 use Rattle.site.specs.Sites.{start}
-use Rattle.site.specs.Worlds.{HasTexts, input_of, answer_among, message_bytes, summary_bytes, message_made}
+use Rattle.site.specs.Worlds.{input_of, answer_among, message_bytes, summary_bytes, message_made}
 use Rattle.site.specs.Worlds.{summary_made, after, HappensAt, Happens, Leads}
 use Rattle.site.specs.SystemViews.{IsSiteOf, AreSitesOf, IsViewOf, IsRunTo}
 use Rattle.site.specs.inner.Playing.{input_among, AnswersOperation, IsEventStep}
@@ -111,7 +111,7 @@ input_same : (w : World) (d : Operation) → input_among (map (λ m. m.bytes) w.
 input_same w (operation.PutPolicy id text) = refl
 input_same w (operation.DeletePolicy id) = refl
 input_same w (operation.PutEntity bytes) = refl
-input_same w (operation.DeleteEntity uid) = refl
+input_same w (operation.DeleteEntity bytes) = refl
 input_same w (operation.Authorize bytes) = refl
 input_same w operation.Summary = refl
 input_same w operation.Offer = refl
@@ -122,7 +122,7 @@ map_back : {X Y : Type 0} (f : X → Y) (g : Y → X) → ((x : X) → g (f x) �
 map_back f g h [] = refl
 map_back f g h (x ∷ xs) = λ i. h x i ∷ map_back f g h xs i
 
-module _ (schema : StatedSchema) (ns : List SiteName) (bs : List SiteView) (ms sms : List (List ℕ)) (w : World) (shown : IsViewOf schema ns bs ms sms w) (e : Event) (texts : HasTexts e.operation) where
+module _ (schema : StatedSchema) (ns : List SiteName) (bs : List SiteView) (ms sms : List (List ℕ)) (w : World) (shown : IsViewOf schema ns bs ms sms w) (e : Event) where
   input_is : input_of w e.operation ≡ input_among ms sms e.operation
   input_is =
       sym (input_same w e.operation)
@@ -136,10 +136,7 @@ module _ (schema : StatedSchema) (ns : List SiteName) (bs : List SiteView) (ms s
   pub plays_nowhere : numbered ns e.site ≡ None → (v : World) × Happens (Step schema) ns w e Unknown v × IsViewOf schema ns bs ms sms v
   plays_nowhere h = (
     w,
-    record {
-      texts = texts;
-      happens = subst (λ (o : Option SiteName). HappensAt (Step schema) w e o (numbered w.stores e.site) (input_of w e.operation) Unknown w) (sym h) (refl, refl);
-    },
+    subst (λ (o : Option SiteName). HappensAt (Step schema) w e o (numbered w.stores e.site) (input_of w e.operation) Unknown w) (sym h) (refl, refl),
     shown,
   )
 
@@ -154,12 +151,10 @@ module _ (schema : StatedSchema) (ns : List SiteName) (bs : List SiteView) (ms s
     store_is = ap (numbered w.stores) place ∙ there.1
 
     happens_by : (q : Option Input) (c : EventReply) (v : World) → input_of w e.operation ≡ q → HappensAt (Step schema) w e (Some a.name) (Some (store_in a)) q c v → Happens (Step schema) ns w e c v
-    happens_by q c v is h = record {
-      texts = texts;
-      happens = subst (λ (o : Option SiteName). HappensAt (Step schema) w e o (numbered w.stores e.site) (input_of w e.operation) c v) (sym name_is)
-          (subst (λ (p : Option Store). HappensAt (Step schema) w e (Some a.name) p (input_of w e.operation) c v) (sym store_is)
-          (subst (λ (x : Option Input). HappensAt (Step schema) w e (Some a.name) (Some (store_in a)) x c v) (sym is) h));
-    }
+    happens_by q c v is h =
+        subst (λ (o : Option SiteName). HappensAt (Step schema) w e o (numbered w.stores e.site) (input_of w e.operation) c v) (sym name_is)
+        (subst (λ (p : Option Store). HappensAt (Step schema) w e (Some a.name) p (input_of w e.operation) c v) (sym store_is)
+        (subst (λ (x : Option Input). HappensAt (Step schema) w e (Some a.name) (Some (store_in a)) x c v) (sym is) h))
 
     -- what the event names was not made
     pub plays_unknown : AnswersOperation (schema_of a) a.name (store_in a) (input_among ms sms e.operation) None (store_in b)
@@ -241,15 +236,15 @@ numbered_place : {X : Type 0} (xs : List X) (n : ℕ) → (n ≡ 0 → ⊥) → 
 numbered_place xs zero h = absurd (h refl)
 numbered_place xs (suc k) h = let same : k ≡ suc k - 1 = omega arith in ap (slice_get xs) same
 
-pub plays_at_zero : (bs : List SiteView) (ms sms : List (List ℕ)) (e : Event) → HasTexts e.operation → e.site ≡ 0 → IsEventStep bs ms sms e Unknown bs ms sms
-plays_at_zero bs ms sms e texts h = λ schema ns w shown. plays_nowhere schema ns bs ms sms w shown e texts (ap (numbered ns) h)
+pub plays_at_zero : (bs : List SiteView) (ms sms : List (List ℕ)) (e : Event) → e.site ≡ 0 → IsEventStep bs ms sms e Unknown bs ms sms
+plays_at_zero bs ms sms e h = λ schema ns w shown. plays_nowhere schema ns bs ms sms w shown e (ap (numbered ns) h)
 
-pub plays_beyond : (bs : List SiteView) (ms sms : List (List ℕ)) (e : Event) → HasTexts e.operation → (e.site ≡ 0 → ⊥) → length bs < e.site → IsEventStep bs ms sms e Unknown bs ms sms
-plays_beyond bs ms sms e texts some h = λ schema ns w shown.
-    plays_nowhere schema ns bs ms sms w shown e texts
+pub plays_beyond : (bs : List SiteView) (ms sms : List (List ℕ)) (e : Event) → (e.site ≡ 0 → ⊥) → length bs < e.site → IsEventStep bs ms sms e Unknown bs ms sms
+plays_beyond bs ms sms e some h = λ schema ns w shown.
+    plays_nowhere schema ns bs ms sms w shown e
     (numbered_place ns e.site some ∙ no_site schema ns w.stores bs (e.site - 1) shown.hold (slice_get_past bs (e.site - 1) (omega arith)))
 
-module _ (bs : List SiteView) (ms sms ms1 sms1 : List (List ℕ)) (e : Event) (a b : SiteView) (texts : HasTexts e.operation) (some : e.site ≡ 0 → ⊥) (within : e.site ≤ length bs)
+module _ (bs : List SiteView) (ms sms ms1 sms1 : List (List ℕ)) (e : Event) (a b : SiteView) (some : e.site ≡ 0 → ⊥) (within : e.site ≤ length bs)
     (read : a ≡ get_or bs (e.site - 1) a) (m_is : ms1 ≡ ms) (s_is : sms1 ≡ sms) (same : IsSameSite a b) where
   place : e.site ≡ suc (e.site - 1)
   place = next e.site some
@@ -267,7 +262,7 @@ module _ (bs : List SiteView) (ms sms ms1 sms1 : List (List ℕ)) (e : Event) (a
 
   pub plays_unmade : AnswersOperation (schema_of a) a.name (store_in a) (input_among ms1 sms1 e.operation) None (store_in b)
       → IsEventStep bs ms sms e Unknown (set bs (e.site - 1) b) ms sms
-  plays_unmade h = λ schema ns w shown. plays_unknown schema ns bs ms sms w shown e texts (e.site - 1) place a b at same
+  plays_unmade h = λ schema ns w shown. plays_unknown schema ns bs ms sms w shown e (e.site - 1) place a b at same
       (subst (λ xs. AnswersOperation (schema_of a) a.name (store_in a) (input_among xs sms e.operation) None (store_in b)) m_is
       (subst (λ ys. AnswersOperation (schema_of a) a.name (store_in a) (input_among ms1 ys e.operation) None (store_in b)) s_is h))
 
@@ -278,6 +273,6 @@ module _ (bs : List SiteView) (ms sms ms1 sms1 : List (List ℕ)) (e : Event) (a
   plays_replied r c ms2 sms2 h answer made noted = λ schema ns w shown.
       subst (λ xs. (v : World) × Happens (Step schema) ns w e c v × IsViewOf schema ns (set bs (e.site - 1) b) xs sms2 v) (sym made)
       (subst (λ ys. (v : World) × Happens (Step schema) ns w e c v × IsViewOf schema ns (set bs (e.site - 1) b) (ms ++ message_bytes e.operation r) ys v) (sym noted)
-      (plays_step schema ns bs ms sms w shown e texts (e.site - 1) place a b at same r c
+      (plays_step schema ns bs ms sms w shown e (e.site - 1) place a b at same r c
       (subst (λ xs. AnswersOperation (schema_of a) a.name (store_in a) (input_among xs sms e.operation) (Some r) (store_in b)) m_is
       (subst (λ ys. AnswersOperation (schema_of a) a.name (store_in a) (input_among ms1 ys e.operation) (Some r) (store_in b)) s_is h)) answer))

@@ -59,13 +59,13 @@ module _ (schema : StatedSchema) (sites : List SiteName) (are : AreSites sites) 
 
   keeps_event : (log : List Issue) (w : World) (K : Kept log w) (e : Event) (a : EventReply) (v : World) → Happens (Step schema) sites w e a v
       → Kept (log ++ issues_of schema sites e a) v
-  keeps_event log w K e a v h = there (numbered sites e.site) (numbered w.stores e.site) refl refl h.happens
+  keeps_event log w K e a v h = there (numbered sites e.site) (numbered w.stores e.site) refl refl h
     where
       there : (o : Option SiteName) (p : Option Store) → numbered sites e.site ≡ o → numbered w.stores e.site ≡ p
           → HappensAt (Step schema) w e o p (input_of w e.operation) a v → Kept (log ++ issues_of schema sites e a) v
       there None p here at k = unknown log w K e a v k
       there (Some n) None here at k = unknown log w K e a v k
-      there (Some n) (Some s) here at k = keeps_there schema sites are stores commands sending log w K e.site n s here at e.operation a v h.texts k
+      there (Some n) (Some s) here at k = keeps_there schema sites are stores commands sending log w K e.site n s here at e.operation a v k
 
   keeps_run : (log : List Issue) (w : World) (es : List Event) (rs : List EventReply) (v : World) → Kept log w → Leads (Step schema) sites w es rs v
       → Kept (log ++ issues schema sites es rs) v
@@ -130,7 +130,7 @@ module _ (schema : StatedSchema) (sites : List SiteName) (are : AreSites sites) 
 
       delivered : Happens (Step schema) sites w delivery all_taken v → numbered v.stores i ≡ Some (joined_stores s m.whole)
       delivered h = delivered_by (numbered sites i) (numbered w.stores i) (option_map input.Take (option_map (λ (x : SentMessage). x.bytes) (slice_get w.messages k))) at
-          (ap (λ (o : Option SentMessage). option_map input.Take (option_map (λ (x : SentMessage). x.bytes) o)) is) h.happens
+          (ap (λ (o : Option SentMessage). option_map input.Take (option_map (λ (x : SentMessage). x.bytes) o)) is) h
 
     -- ---- refused for memory alone
     fit_of : (k : ℕ) (m : SentMessage) → slice_get w.messages k ≡ Some m → (u : Update) → Contains (updates (content m)) u → IsFit schema u

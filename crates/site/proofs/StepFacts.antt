@@ -32,7 +32,7 @@ use Rattle.site_steps.specs.stamped_store.Store.{entity_name}
 use Rattle.site_steps.specs.message_format.Summaries.{HasTexts, IsName, IsStamped}
 use Rattle.site_steps.specs.message_format.Messages.{updates_stated}
 use Rattle.site_steps.specs.message_format.Updates.{stamped, IsValid}
-use Rattle.site_steps.specs.Admitted.{IsPolicyUnder, IsEntityUnder, entity_stated}
+use Rattle.site_steps.specs.Admitted.{IsPolicyUnder, IsEntityUnder, IsPolicyId, entity_stated}
 use Rattle.site_steps.specs.Steps.{most_count, Records}
 use Rattle.site_steps.specs.declared.outcome.Taken.TheVariants.{All, Short}
 use Rattle.site_steps.proofs.JudgingLemmas.{json_utf8}
@@ -41,7 +41,7 @@ use Rattle.site_steps.specs.Inputs.{Input}
 use Rattle.site_steps.specs.Inputs as input
 use Rattle.site_steps.specs.declared.reply.Reply.{Reply}
 use Rattle.site_steps.specs.declared.reply.Reply.TheVariants as reply
-use Rattle.site_steps.specs.Runs.{Step, Run, took_by, took, update_of_entity, updates_of_message}
+use Rattle.site_steps.specs.Runs.{Step, Run, took_by, took, update_of_entity, update_of_deletion, updates_of_message}
 use Rattle.site_steps.specs.stamped_store.SiteNames.{IsSiteName}
 use Rattle.site.specs.Sites.{SiteName}
 use Rattle.site_steps.specs.message_format.declared.fault.MessageFault.{MessageFault}
@@ -102,13 +102,13 @@ module _ (schema : StatedSchema) (law : CommandLaws schema) where
 
   -- a name whose update is fit gets a tombstone
   module _ (n : SiteName) (site : IsSiteName n) (s t : Store) where
-    put_policy : (id text : List ℕ) (put_stamp : Stamp) → IsUtf8 id → IsUtf8 text → IsName (policy_name id)
+    put_policy : (id text : List ℕ) (put_stamp : Stamp) → IsPolicyId id → IsUtf8 text
         → ((p : Policy) × IsPolicyUnder schema id text p) → Records n s (policy_name id) (Some text) put_stamp t
         → Comes schema n s t ((policy_name id, issued put_stamp (Some text)) ∷ [])
-    put_policy id text stamp id_text is_text named reads h = one (policy_name id) (Some text) stamp h.next h.store (record {
-      in_range = stamp_in_range n s (policy_name id) stamp site h.clock h.next named;
+    put_policy id text stamp named is_text reads h = one (policy_name id) (Some text) stamp h.next h.store (record {
+      in_range = stamp_in_range n s (policy_name id) stamp site h.clock h.next named.sized;
       readable = reads;
-      text = record { name = id_text; body = is_text };
+      text = record { name = named.utf8; body = is_text };
     })
 
     put_entity : (d : Data) (bytes : List ℕ) (e : Entity) (stamp : Stamp) → json_of bytes ≡ Some d → entity_stated_in schema d ≡ Ok e
@@ -147,35 +147,37 @@ module _ (schema : StatedSchema) (law : CommandLaws schema) where
           nothing_read (name.Entity uid) = tt
 
       -- ---- the four commands
-      pub policy_put : (id text : List ℕ) (r : Reply) → IsUtf8 id → IsUtf8 text → Step schema n s (input.PutPolicy id text) r t
+      pub policy_put : (id text : List ℕ) (r : Reply) → Step schema n s (input.PutPolicy id text) r t
           → Comes schema n s t (took_by schema (input.PutPolicy id text) r)
-      policy_put id text (reply.Put (Ok put)) a b h = put_policy id text put.stamp a b h.1.named (h.0, h.1.reads) h.3
-      policy_put id text (reply.Put (Err f)) a b h = nothing (unchanged s t (step_leaves n s (input.PutPolicy id text) (reply.Put (Err f)) t h))
-      policy_put id text (reply.Stamped r) a b h = absurd h
-      policy_put id text (reply.Taken r) a b h = absurd h
-      policy_put id text (reply.Answered r) a b h = absurd h
-      policy_put id text (reply.Found r) a b h = absurd h
-      policy_put id text (reply.Written r) a b h = absurd h
+      policy_put id text (reply.Put (Ok put)) h = put_policy id text put.stamp h.1.named h.1.utf8 (h.0, h.1.reads) h.3
+      policy_put id text (reply.Put (Err f)) h = nothing (unchanged s t (step_leaves n s (input.PutPolicy id text) (reply.Put (Err f)) t h))
+      policy_put id text (reply.Stamped r) h = absurd h
+      policy_put id text (reply.Taken r) h = absurd h
+      policy_put id text (reply.Answered r) h = absurd h
+      policy_put id text (reply.Found r) h = absurd h
+      policy_put id text (reply.Written r) h = absurd h
 
       pub policy_deleted : (id : List ℕ) (r : Reply) → Step schema n s (input.DeletePolicy id) r t
           → Comes schema n s t (took_by schema (input.DeletePolicy id) r)
       policy_deleted id (reply.Put r) h = absurd h
-      policy_deleted id (reply.Stamped (Ok stamp)) h = delete (policy_name id) stamp h.0 h.1
+      policy_deleted id (reply.Stamped (Ok stamp)) h = delete (policy_name id) stamp h.1.0 h.1.1
       policy_deleted id (reply.Stamped (Err f)) h = nothing (unchanged s t (step_leaves n s (input.DeletePolicy id) (reply.Stamped (Err f)) t h))
       policy_deleted id (reply.Taken r) h = absurd h
       policy_deleted id (reply.Answered r) h = absurd h
       policy_deleted id (reply.Found r) h = absurd h
       policy_deleted id (reply.Written r) h = absurd h
 
-      pub entity_deleted : (uid : EntityUid) (r : Reply) → Step schema n s (input.DeleteEntity uid) r t
-          → Comes schema n s t (took_by schema (input.DeleteEntity uid) r)
-      entity_deleted uid (reply.Put r) h = absurd h
-      entity_deleted uid (reply.Stamped (Ok stamp)) h = delete (entity_name uid) stamp h.0 h.1
-      entity_deleted uid (reply.Stamped (Err f)) h = nothing (unchanged s t (step_leaves n s (input.DeleteEntity uid) (reply.Stamped (Err f)) t h))
-      entity_deleted uid (reply.Taken r) h = absurd h
-      entity_deleted uid (reply.Answered r) h = absurd h
-      entity_deleted uid (reply.Found r) h = absurd h
-      entity_deleted uid (reply.Written r) h = absurd h
+      pub entity_deleted : (bytes : List ℕ) (r : Reply) → Step schema n s (input.DeleteEntity bytes) r t
+          → Comes schema n s t (took_by schema (input.DeleteEntity bytes) r)
+      entity_deleted bytes (reply.Put r) h = absurd h
+      entity_deleted bytes (reply.Stamped (Ok stamp)) h =
+          subst (λ (x : Option EntityUid). Comes schema n s t (update_of_deletion stamp x)) (sym h.1)
+          (delete (entity_name h.0) stamp h.2.0 h.2.1)
+      entity_deleted bytes (reply.Stamped (Err f)) h = nothing (unchanged s t (step_leaves n s (input.DeleteEntity bytes) (reply.Stamped (Err f)) t h))
+      entity_deleted bytes (reply.Taken r) h = absurd h
+      entity_deleted bytes (reply.Answered r) h = absurd h
+      entity_deleted bytes (reply.Found r) h = absurd h
+      entity_deleted bytes (reply.Written r) h = absurd h
 
     abbrev given : {A : Type 0} → A → Result A EntityFault
     given x = Ok x

@@ -4,7 +4,6 @@
 -- `Unknown` (30, bad shape) and changes nothing. There is no promise of time or order, or that a message is delivered.
 use Rattle.std.specs.Prelude.{◌≡◌, ℕ, List, [], ◌∷◌, ◌++◌, length, map, slice_get}
 use Rattle.std.specs.Prelude.{Option, Some, None, option_map, Ok, Err}
-use Rattle.std.specs.Str.{IsUtf8}
 use Rattle.site_steps.specs.schema.Schemas.{StatedSchema}
 use Rattle.site_steps.specs.stamped_store.Store.{Store, Update}
 use Rattle.site_steps.specs.Inputs.{Input}
@@ -21,19 +20,13 @@ use Rattle.site.specs.Sites.{SiteName, numbered, set_numbered, SentSummary, Sent
 
 -- ---- events
 
--- `HasTexts d` holds if the id and the text of a policy that the operation `d` puts are UTF-8, as all strings in the
--- code are. Other operations have no condition.
-abbrev pub HasTexts : Operation → Type 0
-HasTexts (operation.PutPolicy id text) = IsUtf8 id × IsUtf8 text
-HasTexts _ = Unit {0}
-
 -- `input_by message summary d` is the input that the operation `d` gives its site, where `message` and `summary` give
 -- the bytes of messages and summaries by number; `None` if the one that `d` names does not exist.
 abbrev pub input_by : (ℕ → Option (List ℕ)) → (ℕ → Option (List ℕ)) → Operation → Option Input
 input_by message summary (operation.PutPolicy id text) = Some (input.PutPolicy id text)
 input_by message summary (operation.DeletePolicy id) = Some (input.DeletePolicy id)
 input_by message summary (operation.PutEntity bytes) = Some (input.PutEntity bytes)
-input_by message summary (operation.DeleteEntity uid) = Some (input.DeleteEntity uid)
+input_by message summary (operation.DeleteEntity bytes) = Some (input.DeleteEntity bytes)
 input_by message summary (operation.Authorize bytes) = Some (input.Authorize bytes)
 input_by message summary operation.Summary = Some input.Summary
 input_by message summary operation.Offer = Some input.State
@@ -118,10 +111,10 @@ module _ (Steps : SiteName → Store → Input → Reply → Store → Type 0) w
   HappensAt w e _ _ _ a v = (a ≡ Unknown) × (v ≡ w)
 
   -- `Happens sites w e a v` holds if in the state `w` of the sites `sites` the event `e` may get the reply `a` and lead
-  -- to the state `v`. The strings of `e` must be UTF-8.
-  pub record Happens (sites : List SiteName) (w : World) (e : Event) (a : EventReply) (v : World) : Type 0 where
-    pub texts : HasTexts e.operation
-    pub happens : HappensAt w e (numbered sites e.site) (numbered w.stores e.site) (input_of w e.operation) a v
+  -- to the state `v`.
+  abbrev pub Happens : List SiteName → World → Event → EventReply → World → Type 0
+  Happens sites w e a v =
+      HappensAt w e (numbered sites e.site) (numbered w.stores e.site) (input_of w e.operation) a v
 
   -- `Leads sites w es rs v` holds if the events `es` with the replies `rs` lead from the state `w` to the state `v`.
   abbrev pub Leads : List SiteName → World → List Event → List EventReply → World → Type 0
@@ -165,5 +158,5 @@ abbrev pub issued_by : StatedSchema → Operation → Reply → List Update
 issued_by schema (operation.PutPolicy id text) r = took_by schema (input.PutPolicy id text) r
 issued_by schema (operation.DeletePolicy id) r = took_by schema (input.DeletePolicy id) r
 issued_by schema (operation.PutEntity bytes) r = took_by schema (input.PutEntity bytes) r
-issued_by schema (operation.DeleteEntity uid) r = took_by schema (input.DeleteEntity uid) r
+issued_by schema (operation.DeleteEntity bytes) r = took_by schema (input.DeleteEntity bytes) r
 issued_by schema _ r = []

@@ -1,21 +1,20 @@
 //! The events of a system of sites, and their replies.
 
-use plain::{Items, Text};
+use plain::Items;
 use site_steps::{Reply, SiteFault};
-use values::EntityUid;
 
-/// An operation at a site, not checked yet.
+/// An operation at a site, not checked yet. Each part is bytes, as they came in.
 #[derive(Drop)]
 pub enum Operation {
     /// Puts a policy: its id, and its text.
-    PutPolicy(Text, Text),
+    PutPolicy(Items<u8>, Items<u8>),
     /// Deletes the policy with this id.
-    DeletePolicy(Text),
-    /// Puts an entity: its JSON, as bytes.
+    DeletePolicy(Items<u8>),
+    /// Puts an entity: its JSON.
     PutEntity(Items<u8>),
-    /// Deletes the entity with this uid.
-    DeleteEntity(EntityUid),
-    /// Decides a request: its JSON, as bytes.
+    /// Deletes the entity with the uid in this JSON.
+    DeleteEntity(Items<u8>),
+    /// Decides a request: its JSON.
     Authorize(Items<u8>),
     /// Makes a summary of the store.
     Summary,

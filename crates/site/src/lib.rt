@@ -14,9 +14,8 @@ pub use event::{Event, EventReply, Operation};
 pub use laws::{first_sites_are_distinct, replies_determine_worlds, worlds_keep_promises};
 pub use site_steps::{
     EntityFault, Found, Input, Put, Reply, Scratch, Site, SiteFault, SiteName, Stamp, Taken,
-    answer, entity_texts_are_read_as_stated, inputs_have_one_outcome, is_site_name,
-    messages_are_read_as_stated, run, runs_are_sound, runs_leave_what_they_took,
-    site_names_are_recognized, summaries_are_read_as_stated, take_bytes,
-    updates_are_read_as_stated,
+    entity_texts_are_read_as_stated, inputs_have_one_outcome, is_site_name,
+    messages_are_read_as_stated, names_read_back, runs_are_sound, runs_leave_what_they_took,
+    site_names_are_recognized, summaries_are_read_as_stated, updates_are_read_as_stated,
 };
 pub use world::{World, simulate};

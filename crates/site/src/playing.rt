@@ -4,24 +4,14 @@ ghost use Rattle.site.specs.Sites.{SiteName, start};
 ghost use Rattle.std.specs.Prelude.{◌≡◌, List, ◌++◌, IfOk, OnOk, length, option_map};
 ghost use Rattle.site_steps.specs.SiteViews.{schema_of, store_in, IsSameSite};
 ghost use Rattle.site_steps.specs.Inputs.{input_of};
-ghost use Rattle.site.specs.Worlds.{HasTexts, answer_among, message_bytes, summary_bytes as bytes_made};
+ghost use Rattle.site.specs.Worlds.{answer_among, message_bytes, summary_bytes as bytes_made};
 ghost use Rattle.site.specs.SystemViews.{IsRunTo, IsViewOf};
 ghost use Rattle.site.specs.inner.Playing.{input_among, AnswersOperation, IsEventStep};
 
 use crate::event::{Event, EventReply, Operation};
 use plain::{Items, NoMemory};
-use site_steps::{Input, Reply, Scratch, Site, answer};
+use site_steps::{Input, Reply, Scratch, Site};
 use std::alloc::Global;
-
-/// Proves that the id and the text of a policy that an operation puts are UTF-8. No-op.
-pub(crate) fn has_texts(operation: &Operation)
-    ensures { HasTexts operation.now }
-{
-    if let Operation::PutPolicy(id, text) = operation {
-        let _ = id.as_str();
-        let _ = text.as_str();
-    }
-}
 
 /// Returns the input that an operation gives its site, or `None` if the operation names a message or summary that was
 /// not made yet. `messages` and `summaries` are those that were made so far.
@@ -33,10 +23,10 @@ fn input_by<'a>(
     ensures { option_map input_of result ≡ input_among messages.now summaries.now operation.now }
 {
     match operation {
-        Operation::PutPolicy(id, text) => Some(Input::PutPolicy(id.as_str(), text.as_str())),
-        Operation::DeletePolicy(id) => Some(Input::DeletePolicy(id.as_str())),
+        Operation::PutPolicy(id, text) => Some(Input::PutPolicy(id.as_slice(), text.as_slice())),
+        Operation::DeletePolicy(id) => Some(Input::DeletePolicy(id.as_slice())),
         Operation::PutEntity(bytes) => Some(Input::PutEntity(bytes.as_slice())),
-        Operation::DeleteEntity(uid) => Some(Input::DeleteEntity(uid)),
+        Operation::DeleteEntity(uid) => Some(Input::DeleteEntity(uid.as_slice())),
         Operation::Authorize(bytes) => Some(Input::Authorize(bytes.as_slice())),
         Operation::Summary => Some(Input::Summary),
         Operation::Offer => Some(Input::State),
@@ -54,7 +44,6 @@ fn input_by<'a>(
 /// Executes an operation at a site, and returns the reply. Returns `None`, and changes nothing, if the operation names
 /// a message or summary that was not made yet.
 pub(crate) fn step(
-    alloc: Global,
     scratch: &mut Scratch,
     site: &mut Site,
     operation: &Operation,
@@ -66,7 +55,7 @@ pub(crate) fn step(
     ensures same { IsSameSite site.old site.new }
 {
     match input_by(operation, messages, summaries) {
-        Some(input) => Some(answer(alloc, scratch, site, &input)),
+        Some(input) => Some(site.answer(scratch, &input)),
         None => None,
     }
 }
@@ -128,7 +117,6 @@ pub(crate) fn keep(
 /// Runs one event, and returns its reply. Nothing changes if the event names a site, a message or a summary that does
 /// not exist.
 fn play_one(
-    alloc: Global,
     scratch: &mut Scratch,
     sites: &mut Vec<Site>,
     messages: &mut Vec<Items<u8>>,
@@ -138,7 +126,6 @@ fn play_one(
     ensures { IfOk result (λ a. IsEventStep sites.old.items messages.old.items summaries.old.items event.now a
         sites.new.items messages.new.items summaries.new.items) }
 {
-    has_texts(&event.operation);
     if event.site == 0 {
         return Ok(EventReply::Unknown);
     }
@@ -146,7 +133,6 @@ fn play_one(
         return Ok(EventReply::Unknown);
     }
     let reply = step(
-        alloc,
         scratch,
         &mut sites[event.site - 1],
         &event.operation,
@@ -175,7 +161,7 @@ pub(crate) fn play(
     let mut replies = Vec::new(alloc);
     let mut scratch = Scratch::new(alloc);
     for event in events {
-        replies.push(play_one(alloc, &mut scratch, sites, messages, summaries, event)?)?;
+        replies.push(play_one(&mut scratch, sites, messages, summaries, event)?)?;
     }
     Ok(replies)
 }

@@ -1,6 +1,4 @@
 pub mod inner
-pub mod SiteRequest
-pub mod Calls
 pub mod Reports
 pub mod Answers
 pub mod Lines
@@ -9,7 +7,6 @@ pub mod Statuses
 -- Specifications of lower crates, re-exported.
 pub use Rattle.answer_lines.specs as answer_lines
 pub use Rattle.answer_lines.specs.policy_grammar
-pub use Rattle.answer_lines.specs.entity_uids
 pub use Rattle.http_streams.specs as http_streams
 pub use Rattle.site.specs.site_steps
 pub use Rattle.site.specs.site_steps.entity_data

@@ -11,6 +11,7 @@ use Rattle.schema_decisions.specs.answer_lines.Refusals.{no_memory}
 use Rattle.site_steps.specs.declared.fault.SiteFault.{SiteFault}
 use Rattle.site_steps.specs.declared.fault.SiteFault.TheVariants as fault
 use Rattle.site_steps.specs.SiteViews.{SiteView, schema_of, IsSameSite}
+use Rattle.site_steps.specs.Readings.{parsed}
 use Rattle.site_steps.specs.Steps.{PutsPolicy, PutsEntity}
 use Rattle.site_loading.specs.Puts.{Operation, policy_put, entity_put, put_refusal, Accepts, RefusesAt, AcceptsAll}
 use Rattle.site_loading.specs.Puts.{RefusesFirst}
@@ -29,7 +30,7 @@ refused_policy schema n s t id text fault.NotThere h = (h.0, refl)
 refused_policy schema n s t id text fault.WouldCycle h = (h.0, refl)
 refused_policy schema n s t id text (fault.Request f) h = (h.0, refl)
 
-refused_entity : (schema : StatedSchema) (n : List ℕ) (s t : Store) (json : Option Data) (f : SiteFault) → PutsEntity schema n s json (Err f) t → PutsEntity schema n s json (Err f) s
+refused_entity : (schema : StatedSchema) (n : List ℕ) (s t : Store) (json : Option Data) (f : SiteFault) → PutsEntity (parsed schema) n s json (Err f) t → PutsEntity (parsed schema) n s json (Err f) s
 refused_entity schema n s t json fault.NoMemory h = refl
 refused_entity schema n s t json fault.ClockFull h = (h.0, (h.1.0, refl))
 refused_entity schema n s t json (fault.Entity f) h = (h.0, refl)
@@ -44,7 +45,7 @@ pub policy_refused : (schema : StatedSchema) (n : List ℕ) (s t : Store) (id te
     → OrNoMemory no_memory (RefusesAt schema n s place (policy_put id text)) r
 policy_refused schema n s t id text place f r h e = λ _. (f, refused_policy schema n s t id text f h, e)
 
-pub entity_refused : (schema : StatedSchema) (n : List ℕ) (s t : Store) (json : Data) (place : ℕ) (f : SiteFault) (r : Refusal) → PutsEntity schema n s (Some json) (Err f) t → r ≡ put_refusal place f
+pub entity_refused : (schema : StatedSchema) (n : List ℕ) (s t : Store) (json : Data) (place : ℕ) (f : SiteFault) (r : Refusal) → PutsEntity (parsed schema) n s (Some json) (Err f) t → r ≡ put_refusal place f
     → OrNoMemory no_memory (RefusesAt schema n s place (entity_put json)) r
 entity_refused schema n s t json place f r h e = λ _. (f, refused_entity schema n s t (Some json) f h, e)
 

@@ -11,6 +11,7 @@ use Rattle.site_steps.specs.declared.fault.SiteFault.{SiteFault}
 use Rattle.site_steps.specs.declared.fault.SiteFault.TheVariants.{NoMemory}
 use Rattle.site_steps.specs.declared.outcome.Put.{Put}
 use Rattle.site_steps.specs.Faults.{code_of, within_of}
+use Rattle.site_steps.specs.Readings.{parsed}
 use Rattle.site_steps.specs.Steps.{PutsPolicy, PutsEntity}
 
 -- An `Operation` is a put: `policy_put id text` puts the text of a policy under its id, and `entity_put json` the
@@ -30,12 +31,12 @@ module _ (schema : StatedSchema) (n : List ℕ) where
   -- `Accepts s operation t` holds if the site with the store `s` accepts `operation`, and then has the store `t`.
   abbrev pub Accepts : Store → Operation → Store → Type 0
   Accepts s (policy_put id text) t = (put : Put) × PutsPolicy schema n s id text (Ok put) t
-  Accepts s (entity_put json) t = (stamp : Stamp) × PutsEntity schema n s (Some json) (Ok stamp) t
+  Accepts s (entity_put json) t = (stamp : Stamp) × PutsEntity (parsed schema) n s (Some json) (Ok stamp) t
 
   -- `Refuses s operation f` holds if the site with the store `s` rejects `operation` with the error `f`.
   abbrev pub Refuses : Store → Operation → SiteFault → Type 0
   Refuses s (policy_put id text) f = PutsPolicy schema n s id text (Err f) s
-  Refuses s (entity_put json) f = PutsEntity schema n s (Some json) (Err f) s
+  Refuses s (entity_put json) f = PutsEntity (parsed schema) n s (Some json) (Err f) s
 
   -- `RefusesAt s place operation refusal` holds if the site with the store `s` rejects `operation`, at the index
   -- `place` of its file, and `refusal` reports the error.

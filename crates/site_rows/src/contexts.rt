@@ -1,14 +1,20 @@
 //! Cases of contexts without a request. A run of a site reads a context only within a request.
-use crate::inputs::uid_of;
 use crate::line::{BAD_ROW, Line, NO_MEMORY};
 use crate::replies::push_fault;
-use crate::written::first_word;
+use crate::written::{expanded_text, first_word};
 use entities::{Entity, EntityFault, Schema, canonical_text, read_context};
 use http_service::SiteFault;
 use json_words::read_json;
-use plain::{Items, NoMemory, Shared};
+use plain::{Items, NoMemory, Shared, pair_with};
 use std::alloc::Global;
-use values::{EntityUid, Record, TypeName};
+use values::{EntityUid, Record, SharedText, TypeName};
+
+/// Returns the uid of this type and id.
+fn uid_of(alloc: Global, type_name: TypeName, id: &str) -> Result<EntityUid, NoMemory> {
+    let (type_name, id) = pair_with(type_name, expanded_text(alloc, id))?;
+    let (type_name, id) = pair_with(type_name, SharedText::from_text(alloc, id))?;
+    Ok(EntityUid { type_name, id })
+}
 
 /// Returns the uid of an action, if its type is a path.
 fn action_of(alloc: Global, type_name: &str, id: &str) -> Result<Option<EntityUid>, NoMemory> {

@@ -4,7 +4,7 @@ use crate::line::{BAD_ROW, Line, NO_MEMORY};
 use crate::replies::{push_caches, push_reply};
 use crate::written::first_word;
 use entities::{Schema, read_schema};
-use http_service::{Input, Reply, Site, SiteName, run};
+use http_service::{Input, Reply, Site, SiteName};
 use plain::{NoMemory, Shared};
 use std::alloc::Global;
 
@@ -64,14 +64,13 @@ fn index_of(sites: &[Started], name: &str) -> usize {
 
 /// Gives inputs, as one run, to the newest site of this name, and returns the replies; `None` without such a site.
 fn run_at(
-    alloc: Global,
     sites: &mut Vec<Started>,
     name: &str,
     inputs: &[Input<'_>],
 ) -> Option<Result<Vec<Reply>, NoMemory>> {
     let index = index_of(sites, name);
     match sites.get_mut(index) {
-        Some(started) => Some(run(alloc, &mut started.site, inputs)),
+        Some(started) => Some(started.site.run(inputs)),
         None => None,
     }
 }
@@ -140,7 +139,7 @@ impl Given {
         inputs: &[Input<'_>],
         line: &mut Line,
     ) {
-        match run_at(alloc, &mut self.sites, name, inputs) {
+        match run_at(&mut self.sites, name, inputs) {
             Some(Ok(replies)) => push_all(alloc, line, &replies),
             Some(Err(_)) => line.push(NO_MEMORY),
             None => line.push(BAD_ROW),

@@ -2,36 +2,37 @@
 use crate::line::BETWEEN;
 use crate::written::{expanded, expanded_text, first_word};
 use http_service::Input;
-use plain::{Items, NoMemory, Text, pair_with};
+use json_words::write_json;
+use plain::{Items, NoMemory, pair_with};
+use serde_json::{Value, json};
 use std::alloc::Global;
-use values::{EntityUid, SharedText, TypeName};
 
-/// An input that owns its texts and bytes, as a test case writes it.
+/// An input that owns its bytes, as a test case writes it.
 #[derive(Drop)]
 pub(crate) enum OwnedInput {
-    PutPolicy(Text, Text),
-    DeletePolicy(Text),
+    PutPolicy(Items<u8>, Items<u8>),
+    DeletePolicy(Items<u8>),
     PutEntity(Items<u8>),
-    DeleteEntity(EntityUid),
+    DeleteEntity(Items<u8>),
     Take(Items<u8>),
     Authorize(Items<u8>),
-    GetPolicy(Text),
+    GetPolicy(Items<u8>),
     State,
     Summary,
     Delta(Items<u8>),
 }
 
 impl OwnedInput {
-    /// Returns this input, with its strings and bytes borrowed.
+    /// Returns this input, with its bytes borrowed.
     fn lent(&self) -> Input<'_> {
         match self {
-            OwnedInput::PutPolicy(id, text) => Input::PutPolicy(id.as_str(), text.as_str()),
-            OwnedInput::DeletePolicy(id) => Input::DeletePolicy(id.as_str()),
+            OwnedInput::PutPolicy(id, text) => Input::PutPolicy(id.as_slice(), text.as_slice()),
+            OwnedInput::DeletePolicy(id) => Input::DeletePolicy(id.as_slice()),
             OwnedInput::PutEntity(bytes) => Input::PutEntity(bytes.as_slice()),
-            OwnedInput::DeleteEntity(uid) => Input::DeleteEntity(uid),
+            OwnedInput::DeleteEntity(uid) => Input::DeleteEntity(uid.as_slice()),
             OwnedInput::Take(bytes) => Input::Take(bytes.as_slice()),
             OwnedInput::Authorize(bytes) => Input::Authorize(bytes.as_slice()),
-            OwnedInput::GetPolicy(id) => Input::GetPolicy(id.as_str()),
+            OwnedInput::GetPolicy(id) => Input::GetPolicy(id.as_slice()),
             OwnedInput::State => Input::State,
             OwnedInput::Summary => Input::Summary,
             OwnedInput::Delta(bytes) => Input::Delta(bytes.as_slice()),
@@ -39,7 +40,7 @@ impl OwnedInput {
     }
 }
 
-/// Returns these inputs, with their strings and bytes borrowed.
+/// Returns these inputs, with their bytes borrowed.
 pub(crate) fn all_lent(alloc: Global, inputs: &[OwnedInput]) -> Result<Vec<Input<'_>>, NoMemory> {
     let mut lent = Vec::with_capacity(alloc, inputs.len())?;
     for input in inputs {
@@ -48,35 +49,36 @@ pub(crate) fn all_lent(alloc: Global, inputs: &[OwnedInput]) -> Result<Vec<Input
     Ok(lent)
 }
 
+/// Returns the bytes that a string denotes.
+fn bytes_of(alloc: Global, text: &str) -> Result<Items<u8>, NoMemory> {
+    Ok(Items::from_vec(expanded(alloc, text)?))
+}
+
 /// Returns the input that puts a policy. The string has the policy's id, a blank and the policy's text.
 fn policy_put(alloc: Global, text: &str) -> Result<Option<OwnedInput>, NoMemory> {
     let (id, text) = first_word(text);
-    let id = expanded_text(alloc, id)?;
-    let (id, text) = pair_with(id, expanded_text(alloc, text))?;
+    let id = bytes_of(alloc, id)?;
+    let (id, text) = pair_with(id, bytes_of(alloc, text))?;
     Ok(Some(OwnedInput::PutPolicy(id, text)))
 }
 
-/// Returns the uid of this type and id.
-pub(crate) fn uid_of(alloc: Global, type_name: TypeName, id: &str) -> Result<EntityUid, NoMemory> {
-    let (type_name, id) = pair_with(type_name, expanded_text(alloc, id))?;
-    let (type_name, id) = pair_with(type_name, SharedText::from_text(alloc, id))?;
-    Ok(EntityUid { type_name, id })
+/// Returns the JSON of the uid with this type and this id.
+fn uid_value(alloc: Global, type_name: &str, id: &str) -> Result<Value, NoMemory> {
+    json!(in alloc; {"id": id, "type": type_name})
 }
 
-/// Returns the input that deletes an entity. The string has the entity's type, a blank and the entity's id. If the type
-/// is not a path, returns a put of no bytes, which has the error that a served site reports for a malformed uid:
-/// `BadShape` (30).
+/// Returns the input that deletes an entity. The string has the entity's type, a blank and the entity's id.
 fn entity_deleted(alloc: Global, text: &str) -> Result<Option<OwnedInput>, NoMemory> {
     let (type_name, id) = first_word(text);
-    match TypeName::parse(alloc, type_name)? {
-        Some(type_name) => Ok(Some(OwnedInput::DeleteEntity(uid_of(alloc, type_name, id)?))),
-        None => Ok(Some(OwnedInput::PutEntity(Items::new(alloc)))),
-    }
+    let id = expanded_text(alloc, id)?;
+    let uid = uid_value(alloc, type_name, id.as_str())?;
+    let bytes = Items::from_vec(write_json(alloc, &uid)?);
+    Ok(Some(OwnedInput::DeleteEntity(bytes)))
 }
 
 /// Returns the deletion or the look-up of the policy with this id.
 fn input_by_id(alloc: Global, word: &str, id: &str) -> Result<Option<OwnedInput>, NoMemory> {
-    let id = expanded_text(alloc, id)?;
+    let id = bytes_of(alloc, id)?;
     match word {
         "delete_policy" => Ok(Some(OwnedInput::DeletePolicy(id))),
         _ => Ok(Some(OwnedInput::GetPolicy(id))),
@@ -95,7 +97,7 @@ pub(crate) fn input_of_bytes<'a>(word: &str, bytes: &'a [u8]) -> Input<'a> {
 
 /// Returns the input of this word with the bytes that a string denotes.
 fn input_by_bytes(alloc: Global, word: &str, text: &str) -> Result<Option<OwnedInput>, NoMemory> {
-    let bytes = Items::from_vec(expanded(alloc, text)?);
+    let bytes = bytes_of(alloc, text)?;
     match word {
         "put_entity" => Ok(Some(OwnedInput::PutEntity(bytes))),
         "take" => Ok(Some(OwnedInput::Take(bytes))),

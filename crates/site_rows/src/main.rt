@@ -1,4 +1,4 @@
-//! Runs test cases, most of them through the public calls of whole sites: [`run`], [`simulate`] and [`serve`].
+//! Runs test cases, most of them through the public calls of whole sites: [`Site::run`], [`simulate`] and [`serve`].
 //!
 //! Each line of standard input is one case. The program prints the line, an arrow, and the outcome. It copies a line
 //! that is empty or begins with `#`, so line N of its output belongs to line N of its input.
@@ -39,7 +39,7 @@
 //! number), and `⟦0a ff⟧` is the bytes 10 and 255. In a stream `\r` and `\n` are a carriage return and a line feed, and
 //! a backslash with any other byte is that byte.
 //!
-//! [`run`]: site::run
+//! [`Site::run`]: site_steps::Site::run
 //! [`simulate`]: site::simulate
 //! [`serve`]: http_service::serve
 #![tactic(auto)]

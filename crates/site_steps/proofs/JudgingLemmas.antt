@@ -12,7 +12,6 @@ use Rattle.plain.specs.Words.{IsPath}
 use Rattle.site_store.specs.policy_grammar.declared.policy.Policy.{Policy}
 use Rattle.site_store.specs.policy_grammar.declared.fault.ReadFault.{ReadFault}
 use Rattle.site_store.specs.policy_grammar.declared.fault.ReadFault.TheVariants as reading
-use Rattle.site_store.specs.policy_grammar.Limits.{IsId}
 use Rattle.plain.specs.AllocationErrors.{OrNoMemory}
 use Rattle.site_store.specs.policy_grammar.PolicyText.{IsPolicyText, IsPolicyRefused}
 use Rattle.site_store.specs.schema.Schemas.{StatedSchema}
@@ -26,14 +25,14 @@ use Rattle.site_store.specs.stamped_store.declared.entry.ReadText.{ReadText}
 use Rattle.site_soundness.specs.sync_messages.Texts.{entity_of_text, ReadsEntity}
 use Rattle.site_steps.specs.declared.fault.SiteFault.{SiteFault}
 use Rattle.site_steps.specs.declared.fault.SiteFault.TheVariants as fault
-use Rattle.site_steps.specs.Admitted.{IsEntityUnder, IsNotAdmitted, no_policy, not_passing}
+use Rattle.site_steps.specs.Admitted.{IsEntityUnder, IsPolicyId, IsNotAdmitted, no_policy, not_passing}
 use Rattle.site_steps.specs.Faults.{of_reading, of_checking}
 use Rattle.site_steps.specs.inner.Recording.{IsCheckedPolicy, IsStatedBy}
 
-module _ (s : StatedSchema) (id text : List ℕ) (named : IsId id) (r : SiteFault) where
+module _ (s : StatedSchema) (id text : List ℕ) (named : IsPolicyId id) (utf8 : IsUtf8 text) (r : SiteFault) where
   -- a text that is not a policy's
   unread : (f : ReadFault) → IsPolicyRefused text f → r ≡ fault.Policy f → IsNotAdmitted s id text r
-  unread f h e = subst (λ x. IsNotAdmitted s id text x) (sym e) (no_policy f named h)
+  unread f h e = subst (λ x. IsNotAdmitted s id text x) (sym e) (no_policy f named utf8 h)
 
   pub not_read : (f : ReadFault) → OrNoMemory reading.NoMemory (IsPolicyRefused text) f → r ≡ of_reading f
       → OrNoMemory fault.NoMemory (IsNotAdmitted s id text) r
@@ -52,7 +51,7 @@ module _ (s : StatedSchema) (id text : List ℕ) (named : IsId id) (r : SiteFaul
   -- a policy that does not pass
   unpassed : (p : Policy) → IsPolicyText text p → (f : TypeFault) → IsCheckRefused s p f → r ≡ fault.Check f
       → IsNotAdmitted s id text r
-  unpassed p is f h e = subst (λ x. IsNotAdmitted s id text x) (sym e) (not_passing p f named is h)
+  unpassed p is f h e = subst (λ x. IsNotAdmitted s id text x) (sym e) (not_passing p f named utf8 is h)
 
   pub not_passed : (p : Policy) → IsPolicyText text p → (f : TypeFault) → OrNoMemory checking.NoMemory (IsCheckRefused s p) f
       → r ≡ of_checking f → OrNoMemory fault.NoMemory (IsNotAdmitted s id text) r
@@ -88,15 +87,16 @@ reads_again s e text is json again =
 
 -- ---- a policy with its verdict
 pub judged_by : {E : Type 0} → (s : StatedSchema) (id text : List ℕ) (p : Policy) (verdict : Result Bool SiteFault)
-    (t : Result (List ℕ) E) (b : ReadText Policy) (impossible : Bool) → IsId id → IsPolicyText text p
+    (t : Result (List ℕ) E) (b : ReadText Policy) (impossible : Bool) → IsPolicyId id → IsUtf8 text → IsPolicyText text p
     → IfOk verdict (λ yes. Passes s p × (IsTrue yes ↔ IsImpossible s p)) → IfOk t (λ x. x ≡ text) → b.read ≡ p
     → verdict ≡ Ok impossible → t ≡ Ok b.text → IsCheckedPolicy s id text b impossible
-judged_by {E} s id text p verdict t b impossible named is passes same read told kept =
+judged_by {E} s id text p verdict t b impossible named utf8 is passes same read told kept =
     let both = subst (λ v. IfOk v (λ yes. Passes s p × (IsTrue yes ↔ IsImpossible s p))) told passes in
     record {
       same = subst (λ (v : Result (List ℕ) E). IfOk v (λ x. x ≡ text)) kept same;
       admitted = record {
         named = named;
+        utf8 = utf8;
         reads = record {
           is_text = subst (λ (q : Policy). IsPolicyText text q) (sym read) is;
           passes = subst (λ (q : Policy). Passes s q) (sym read) both.0;

@@ -4,6 +4,7 @@ pub mod Recording
 pub mod Taking
 pub mod StoreRanges
 pub mod Paths
+pub mod ByBytes
 pub mod RunLemmas
 pub mod OneStored
 pub mod OneAnswered

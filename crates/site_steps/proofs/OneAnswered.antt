@@ -1,9 +1,12 @@
 -- A message or query has at most one outcome if there is memory.
 use Rattle.std.specs.Prelude.{◌≡◌, ◌++◌, ℕ, List, length, Option, Some, None, option_map, Result, Ok, Err, refl}
+use Rattle.std.specs.Str.{IsUtf8}
 use Rattle.std.proofs.Common.{sym, ap, ◌∙◌, subst}
 use Rattle.serde_json.specs.Data.{Data}
 use Rattle.values.specs.declared.request.Request.{Request}
 use Rattle.site_store.specs.policy_grammar.declared.policy.Policy.{Policy}
+use Rattle.site_store.specs.policy_grammar.declared.fault.ReadFault.{ReadFault}
+use Rattle.site_store.specs.policy_grammar.declared.fault.ReadFault.TheVariants.{BadId}
 use Rattle.site_store.specs.authoriser.declared.answer.Answer.{Answer}
 use Rattle.site_store.specs.schema.Schemas.{StatedSchema}
 use Rattle.site_store.specs.entity_data.declared.entity.Entity.{Entity}
@@ -24,7 +27,8 @@ use Rattle.site_steps.specs.declared.fault.SiteFault.TheVariants as fault
 use Rattle.site_steps.specs.declared.outcome.Taken as taking
 use Rattle.site_steps.specs.declared.outcome.Taken.TheVariants.{All, Short}
 use Rattle.site_steps.specs.Admitted.{IsPolicyUnder, IsEntityUnder, IsRequestOf, IsNoRequest}
-use Rattle.site_steps.specs.Steps.{Answers}
+use Rattle.site_steps.specs.Readings.{parsed}
+use Rattle.site_steps.specs.Steps.{Answers, policy_found}
 use Rattle.site_steps.specs.declared.reply.Found.{Found}
 use Rattle.site_steps.specs.Runs.{TakesMessage, Finds, Writes, WritesDelta}
 use Rattle.site_steps.specs.Outcomes.{ReportsNoFailedAllocation, ReportsNoFailedAllocationForAll}
@@ -40,7 +44,7 @@ pub data MessageComes (schema : StatedSchema) (s : Store) (bytes : List ℕ) : R
       → MessageComes schema s bytes (Err (fault.Message f)) t
 
 pub message_comes : (schema : StatedSchema) (s : Store) (bytes : List ℕ) (r : Result taking.Taken SiteFault) (t : Store)
-    → TakesMessage schema s bytes r t → ReportsNoFailedAllocationForAll r → MessageComes schema s bytes r t
+    → TakesMessage (parsed schema) s bytes r t → ReportsNoFailedAllocationForAll r → MessageComes schema s bytes r t
 message_comes schema s bytes (Ok (All k)) t h m = joined k t h.0 h.1 h.2.0 h.2.1
 message_comes schema s bytes (Ok (Short k)) t h m = absurd m
 message_comes schema s bytes (Err fault.NoMemory) t h m = absurd m
@@ -100,7 +104,7 @@ module _ (schema : StatedSchema) (one_request : OneRequest) (apart : NotBoth) (o
         → IsAnswerOver (IsPolicyUnder schema) (IsEntityUnder schema) schema s q a → AnswerComes s json (Ok a)
     unasked : (f : EntityFault) → IsNoRequest schema json f → AnswerComes s json (Err (fault.Request f))
 
-  answer_comes : (s : Store) (json : Option Data) (r : Result Answer SiteFault) → Answers schema s json r → ReportsNoFailedAllocation r
+  answer_comes : (s : Store) (json : Option Data) (r : Result Answer SiteFault) → Answers (parsed schema) s json r → ReportsNoFailedAllocation r
       → AnswerComes s json r
   answer_comes s json (Ok a) h m = answered a h.0 h.1 h.2
   answer_comes s json (Err fault.NoMemory) h m = absurd m
@@ -123,8 +127,8 @@ module _ (schema : StatedSchema) (one_request : OneRequest) (apart : NotBoth) (o
   one_decided s json _ _ (unasked f h) (unasked g k) =
       ap (λ (x : EntityFault). Err (fault.Request x)) (one_unasked json f g h k)
 
-  pub one_reply : (s : Store) (json : Option Data) (x y : Result Answer SiteFault) → Answers schema s json x → ReportsNoFailedAllocation x
-      → Answers schema s json y → ReportsNoFailedAllocation y → x ≡ y
+  pub one_reply : (s : Store) (json : Option Data) (x y : Result Answer SiteFault) → Answers (parsed schema) s json x
+      → ReportsNoFailedAllocation x → Answers (parsed schema) s json y → ReportsNoFailedAllocation y → x ≡ y
   one_reply s json x y h m k w = one_decided s json x y (answer_comes s json x h m) (answer_comes s json y k w)
 
 -- ---- look-ups
@@ -150,22 +154,34 @@ same_found (Some a) (Some b) h =
     stamp_in None = a.stamp
     stamp_in (Some p) = p.1
 
-found_whole : (s : Store) (id : List ℕ) (f : SiteFault) → Finds s id (Err f) → ReportsNoFailedAllocation {A = Option Found} (Err f) → ⊥
-found_whole s id fault.NoMemory h m = m
-found_whole s id (fault.Policy f) h m = h
-found_whole s id (fault.Check f) h m = h
-found_whole s id (fault.Entity f) h m = h
-found_whole s id (fault.Message f) h m = h
-found_whole s id fault.NotThere h m = h
-found_whole s id fault.WouldCycle h m = h
-found_whole s id fault.ClockFull h m = h
-found_whole s id (fault.Request f) h m = h
+data FoundComes (s : Store) (id : List ℕ) : Result (Option Found) SiteFault → Type 0 where
+  looked_up : (found : Option Found) → IsUtf8 id → option_map shown_found found ≡ policy_found s id
+      → FoundComes s id (Ok found)
+  no_id : (f : ReadFault) → f ≡ BadId → (IsUtf8 id → ⊥) → FoundComes s id (Err (fault.Policy f))
+
+found_comes : (s : Store) (id : List ℕ) (r : Result (Option Found) SiteFault) → Finds s id r
+    → ReportsNoFailedAllocation r → FoundComes s id r
+found_comes s id (Ok found) h m = looked_up found h.0 h.1
+found_comes s id (Err fault.NoMemory) h m = absurd m
+found_comes s id (Err (fault.Policy f)) h m = no_id f h.0 h.1
+found_comes s id (Err (fault.Check f)) h m = absurd h
+found_comes s id (Err (fault.Entity f)) h m = absurd h
+found_comes s id (Err (fault.Message f)) h m = absurd h
+found_comes s id (Err fault.NotThere) h m = absurd h
+found_comes s id (Err fault.WouldCycle) h m = absurd h
+found_comes s id (Err fault.ClockFull) h m = absurd h
+found_comes s id (Err (fault.Request f)) h m = absurd h
+
+one_look_up : (s : Store) (id : List ℕ) (x y : Result (Option Found) SiteFault) → FoundComes s id x → FoundComes s id y
+    → x ≡ y
+one_look_up s id _ _ (looked_up x a h) (looked_up y b k) = same_ok x y (same_found x y (h ∙ sym k))
+one_look_up s id _ _ (looked_up x a h) (no_id g e b) = absurd (b a)
+one_look_up s id _ _ (no_id f e a) (looked_up y b k) = absurd (a b)
+one_look_up s id _ _ (no_id f e a) (no_id g i b) = ap (λ (x : ReadFault). Err (fault.Policy x)) (e ∙ sym i)
 
 pub one_found : (s : Store) (id : List ℕ) (x y : Result (Option Found) SiteFault) → Finds s id x → ReportsNoFailedAllocation x
     → Finds s id y → ReportsNoFailedAllocation y → x ≡ y
-one_found s id (Ok x) (Ok y) h m k w = same_ok x y (same_found x y (h ∙ sym k))
-one_found s id (Ok x) (Err g) h m k w = absurd (found_whole s id g k w)
-one_found s id (Err f) y h m k w = absurd (found_whole s id f h m)
+one_found s id x y h m k w = one_look_up s id x y (found_comes s id x h m) (found_comes s id y k w)
 
 written_whole : (bytes : List ℕ) (f : SiteFault) → Writes bytes (Err f) → ReportsNoFailedAllocation {A = List ℕ} (Err f) → ⊥
 written_whole bytes fault.NoMemory h m = m
@@ -192,7 +208,7 @@ pub data DeltaComes (schema : StatedSchema) (s : Store) (summary : List ℕ) : R
       → DeltaComes schema s summary (Err (fault.Message f))
 
 pub delta_comes : (schema : StatedSchema) (s : Store) (summary : List ℕ) (r : Result (List ℕ) SiteFault)
-    → WritesDelta schema s summary r → ReportsNoFailedAllocation r → DeltaComes schema s summary r
+    → WritesDelta (parsed schema) s summary r → ReportsNoFailedAllocation r → DeltaComes schema s summary r
 delta_comes schema s summary (Ok written) h m = told written h.0 h.1 h.2
 delta_comes schema s summary (Err fault.NoMemory) h m = absurd m
 delta_comes schema s summary (Err (fault.Policy f)) h m = absurd h

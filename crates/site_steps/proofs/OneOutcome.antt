@@ -13,7 +13,7 @@ use Rattle.site_store.specs.entities.Laws.{OneRequest, NotBoth, OneRefusal}
 use Rattle.site_soundness.specs.validator.Outcomes.{PoliciesHaveOneOutcome, PassingIsNotRefused}
 use Rattle.site_store.specs.stamped_store.declared.entry.Stamp.{Stamp}
 use Rattle.site_store.specs.stamped_store.Deltas as deltas
-use Rattle.site_store.specs.stamped_store.Store.{Store, policy_name, entity_name}
+use Rattle.site_store.specs.stamped_store.Store.{Store}
 use Rattle.site_store.specs.site_meaning.StoreMeaning.{AreEntities, IsAnswerOver}
 use Rattle.site_soundness.specs.message_format.Summaries.{summary_text}
 use Rattle.site_soundness.specs.message_format.Messages.{state_text}
@@ -21,7 +21,8 @@ use Rattle.site_steps.specs.declared.fault.SiteFault.{SiteFault}
 use Rattle.site_steps.specs.declared.outcome.Put.{Put}
 use Rattle.site_steps.specs.declared.outcome.Taken as taking
 use Rattle.site_steps.specs.Admitted.{IsPolicyUnder, IsEntityUnder}
-use Rattle.site_steps.specs.Steps.{PutsPolicy, PutsEntity, Deletes, Answers}
+use Rattle.site_steps.specs.Readings.{parsed}
+use Rattle.site_steps.specs.Steps.{PutsPolicy, PutsEntity, DeletesPolicy, DeletesEntity, Answers}
 use Rattle.site_steps.specs.Inputs.{Input}
 use Rattle.site_steps.specs.Inputs as input
 use Rattle.site_steps.specs.declared.reply.Found.{Found}
@@ -29,7 +30,8 @@ use Rattle.site_steps.specs.declared.reply.Reply.{Reply}
 use Rattle.site_steps.specs.declared.reply.Reply.TheVariants as reply
 use Rattle.site_steps.specs.Runs.{TakesMessage, Finds, Writes, WritesDelta, Step}
 use Rattle.site_steps.specs.Outcomes.{ReportsNoFailedAllocation, ReportsNoFailedAllocationForAll, IsWhole}
-use Rattle.site_steps.proofs.OneStored.{policy_comes, one_policy, delete_comes, one_delete, entity_comes, one_entity}
+use Rattle.site_steps.proofs.OneStored.{policy_comes, one_policy, policy_delete_comes, one_policy_delete, entity_comes}
+use Rattle.site_steps.proofs.OneStored.{one_entity, entity_delete_comes, one_entity_delete}
 use Rattle.site_steps.proofs.OneAnswered.{message_comes, MessagesAreOne, one_message, one_reply, one_found, one_written}
 use Rattle.site_steps.proofs.OneAnswered.{delta_comes, one_delta}
 
@@ -48,7 +50,7 @@ in_put schema n s id text (reply.Written x) t h m = absurd h
 
 in_delete_policy : (schema : StatedSchema) (n : List ℕ) (s : Store) (id : List ℕ) (r : Reply) (t : Store)
     → Step schema n s (input.DeletePolicy id) r t → IsWhole r
-    → (x : Result Stamp SiteFault) × (r ≡ reply.Stamped x) × Deletes n s (policy_name id) x t × ReportsNoFailedAllocation x
+    → (x : Result Stamp SiteFault) × (r ≡ reply.Stamped x) × DeletesPolicy n s id x t × ReportsNoFailedAllocation x
 in_delete_policy schema n s id (reply.Put x) t h m = absurd h
 in_delete_policy schema n s id (reply.Stamped x) t h m = (x, refl, h, m)
 in_delete_policy schema n s id (reply.Taken x) t h m = absurd h
@@ -58,7 +60,7 @@ in_delete_policy schema n s id (reply.Written x) t h m = absurd h
 
 in_put_entity : (schema : StatedSchema) (n : List ℕ) (s : Store) (bytes : List ℕ) (r : Reply) (t : Store)
     → Step schema n s (input.PutEntity bytes) r t → IsWhole r
-    → (x : Result Stamp SiteFault) × (r ≡ reply.Stamped x) × PutsEntity schema n s (json_of bytes) x t × ReportsNoFailedAllocation x
+    → (x : Result Stamp SiteFault) × (r ≡ reply.Stamped x) × PutsEntity (parsed schema) n s (json_of bytes) x t × ReportsNoFailedAllocation x
 in_put_entity schema n s bytes (reply.Put x) t h m = absurd h
 in_put_entity schema n s bytes (reply.Stamped x) t h m = (x, refl, h, m)
 in_put_entity schema n s bytes (reply.Taken x) t h m = absurd h
@@ -66,19 +68,19 @@ in_put_entity schema n s bytes (reply.Answered x) t h m = absurd h
 in_put_entity schema n s bytes (reply.Found x) t h m = absurd h
 in_put_entity schema n s bytes (reply.Written x) t h m = absurd h
 
-in_delete_entity : (schema : StatedSchema) (n : List ℕ) (s : Store) (uid : EntityUid) (r : Reply) (t : Store)
-    → Step schema n s (input.DeleteEntity uid) r t → IsWhole r
-    → (x : Result Stamp SiteFault) × (r ≡ reply.Stamped x) × Deletes n s (entity_name uid) x t × ReportsNoFailedAllocation x
-in_delete_entity schema n s uid (reply.Put x) t h m = absurd h
-in_delete_entity schema n s uid (reply.Stamped x) t h m = (x, refl, h, m)
-in_delete_entity schema n s uid (reply.Taken x) t h m = absurd h
-in_delete_entity schema n s uid (reply.Answered x) t h m = absurd h
-in_delete_entity schema n s uid (reply.Found x) t h m = absurd h
-in_delete_entity schema n s uid (reply.Written x) t h m = absurd h
+in_delete_entity : (schema : StatedSchema) (n : List ℕ) (s : Store) (bytes : List ℕ) (r : Reply) (t : Store)
+    → Step schema n s (input.DeleteEntity bytes) r t → IsWhole r
+    → (x : Result Stamp SiteFault) × (r ≡ reply.Stamped x) × DeletesEntity (parsed schema) n s (json_of bytes) x t × ReportsNoFailedAllocation x
+in_delete_entity schema n s bytes (reply.Put x) t h m = absurd h
+in_delete_entity schema n s bytes (reply.Stamped x) t h m = (x, refl, h, m)
+in_delete_entity schema n s bytes (reply.Taken x) t h m = absurd h
+in_delete_entity schema n s bytes (reply.Answered x) t h m = absurd h
+in_delete_entity schema n s bytes (reply.Found x) t h m = absurd h
+in_delete_entity schema n s bytes (reply.Written x) t h m = absurd h
 
 in_take : (schema : StatedSchema) (n : List ℕ) (s : Store) (bytes : List ℕ) (r : Reply) (t : Store)
     → Step schema n s (input.Take bytes) r t → IsWhole r
-    → (x : Result taking.Taken SiteFault) × (r ≡ reply.Taken x) × TakesMessage schema s bytes x t × ReportsNoFailedAllocationForAll x
+    → (x : Result taking.Taken SiteFault) × (r ≡ reply.Taken x) × TakesMessage (parsed schema) s bytes x t × ReportsNoFailedAllocationForAll x
 in_take schema n s bytes (reply.Put x) t h m = absurd h
 in_take schema n s bytes (reply.Stamped x) t h m = absurd h
 in_take schema n s bytes (reply.Taken x) t h m = (x, refl, h, m)
@@ -88,7 +90,7 @@ in_take schema n s bytes (reply.Written x) t h m = absurd h
 
 in_authorize : (schema : StatedSchema) (n : List ℕ) (s : Store) (bytes : List ℕ) (r : Reply) (t : Store)
     → Step schema n s (input.Authorize bytes) r t → IsWhole r
-    → (x : Result Answer SiteFault) × (r ≡ reply.Answered x) × (Answers schema s (json_of bytes) x × (t ≡ s)) × ReportsNoFailedAllocation x
+    → (x : Result Answer SiteFault) × (r ≡ reply.Answered x) × (Answers (parsed schema) s (json_of bytes) x × (t ≡ s)) × ReportsNoFailedAllocation x
 in_authorize schema n s bytes (reply.Put x) t h m = absurd h
 in_authorize schema n s bytes (reply.Stamped x) t h m = absurd h
 in_authorize schema n s bytes (reply.Taken x) t h m = absurd h
@@ -128,7 +130,7 @@ in_summary schema n s (reply.Written x) t h m = (x, refl, h, m)
 
 in_delta : (schema : StatedSchema) (n : List ℕ) (s : Store) (bytes : List ℕ) (r : Reply) (t : Store)
     → Step schema n s (input.Delta bytes) r t → IsWhole r
-    → (x : Result (List ℕ) SiteFault) × (r ≡ reply.Written x) × (WritesDelta schema s bytes x × (t ≡ s)) × ReportsNoFailedAllocation x
+    → (x : Result (List ℕ) SiteFault) × (r ≡ reply.Written x) × (WritesDelta (parsed schema) s bytes x × (t ≡ s)) × ReportsNoFailedAllocation x
 in_delta schema n s bytes (reply.Put x) t h m = absurd h
 in_delta schema n s bytes (reply.Stamped x) t h m = absurd h
 in_delta schema n s bytes (reply.Taken x) t h m = absurd h
@@ -166,8 +168,8 @@ one_step schema law n s (input.PutPolicy id text) r q t u h m k w =
 one_step schema law n s (input.DeletePolicy id) r q t u h m k w =
     let a = in_delete_policy schema n s id r t h m in
     let b = in_delete_policy schema n s id q u k w in
-    let both = one_delete n s (policy_name id) a.0 b.0 t u
-    (delete_comes n s (policy_name id) a.0 t a.2 a.3) (delete_comes n s (policy_name id) b.0 u b.2 b.3) in
+    let both = one_policy_delete n s id a.0 b.0 t u
+    (policy_delete_comes n s id a.0 t a.2 a.3) (policy_delete_comes n s id b.0 u b.2 b.3) in
     (by_result (λ (z : Result Stamp SiteFault). reply.Stamped z) r q a.0 b.0 a.1 b.1 both.0, both.1)
 one_step schema law n s (input.PutEntity bytes) r q t u h m k w =
     let a = in_put_entity schema n s bytes r t h m in
@@ -175,11 +177,12 @@ one_step schema law n s (input.PutEntity bytes) r q t u h m k w =
     let both = one_entity schema law.one_world n s (json_of bytes) a.0 b.0 t u
     (entity_comes schema n s (json_of bytes) a.0 t a.2 a.3) (entity_comes schema n s (json_of bytes) b.0 u b.2 b.3) in
     (by_result (λ (z : Result Stamp SiteFault). reply.Stamped z) r q a.0 b.0 a.1 b.1 both.0, both.1)
-one_step schema law n s (input.DeleteEntity uid) r q t u h m k w =
-    let a = in_delete_entity schema n s uid r t h m in
-    let b = in_delete_entity schema n s uid q u k w in
-    let both = one_delete n s (entity_name uid) a.0 b.0 t u
-    (delete_comes n s (entity_name uid) a.0 t a.2 a.3) (delete_comes n s (entity_name uid) b.0 u b.2 b.3) in
+one_step schema law n s (input.DeleteEntity bytes) r q t u h m k w =
+    let a = in_delete_entity schema n s bytes r t h m in
+    let b = in_delete_entity schema n s bytes q u k w in
+    let both = one_entity_delete n s (json_of bytes) a.0 b.0 t u
+    (entity_delete_comes schema n s (json_of bytes) a.0 t a.2 a.3)
+    (entity_delete_comes schema n s (json_of bytes) b.0 u b.2 b.3) in
     (by_result (λ (z : Result Stamp SiteFault). reply.Stamped z) r q a.0 b.0 a.1 b.1 both.0, both.1)
 one_step schema law n s (input.Take bytes) r q t u h m k w =
     let a = in_take schema n s bytes r t h m in

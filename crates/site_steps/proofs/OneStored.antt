@@ -1,18 +1,23 @@
 -- A put or deletion has at most one outcome if there is memory.
-use Rattle.std.specs.Prelude.{◌≡◌, ◌↔◌, ◌<◌, ◌++◌, ◌∷◌, [], ℕ, List, Bool, true, false, IsTrue, Option, Some, None}
-use Rattle.std.specs.Prelude.{IsSome, Result, Ok, Err, refl}
-use Rattle.std.proofs.Common.{sym, ap, ◌∙◌, subst, arith}
+use Rattle.std.specs.Prelude.{◌≡◌, ◌↔◌, ◌<◌, ◌≤◌, ◌++◌, ◌∷◌, [], ℕ, List, length, Bool, true, false, IsTrue, Option, Some}
+use Rattle.std.specs.Prelude.{None, IsSome, option_and_then, Result, Ok, Err, refl}
+use Rattle.std.specs.Str.{IsUtf8}
+use Rattle.std.proofs.Common.{sym, ap, ◌∙◌, subst, arith, inl}
 use Rattle.serde_json.specs.Data.{Data}
 use Rattle.values.specs.declared.entity_uid.EntityUid.{EntityUid}
 use Rattle.values.specs.declared.name.Name.{Name}
 use Rattle.site_store.specs.policy_grammar.declared.policy.Policy.{Policy}
 use Rattle.site_store.specs.policy_grammar.declared.fault.ReadFault.{ReadFault}
+use Rattle.site_store.specs.policy_grammar.declared.fault.ReadFault.TheVariants.{BadId, TooLong}
+use Rattle.site_store.specs.policy_grammar.Limits.{most_policy_bytes}
 use Rattle.site_store.specs.policy_grammar.PolicyText.{IsPolicyText, IsPolicyRefused}
 use Rattle.site_store.specs.policy_grammar.Unique.{HasOneReading}
 use Rattle.site_store.specs.ancestor_search.Hierarchy.{IsOnCycle}
 use Rattle.site_store.specs.schema.Schemas.{StatedSchema}
 use Rattle.site_store.specs.entity_data.declared.entity.Entity.{Entity}
 use Rattle.site_store.specs.entities.declared.fault.EntityFault.{EntityFault}
+use Rattle.site_store.specs.entities.declared.fault.EntityFault.TheVariants.{BadShape}
+use Rattle.site_soundness.specs.entity_uids.Uids.{uid_in}
 use Rattle.site_store.specs.entities.Canonical.{canonical_text}
 use Rattle.site_soundness.specs.validator.declared.fault.TypeFault.{TypeFault}
 use Rattle.site_soundness.specs.validator.Outcomes.{refused as check_refused, PoliciesHaveOneOutcome, PassingIsNotRefused}
@@ -25,8 +30,11 @@ use Rattle.site_store.specs.site_meaning.StoreMeaning.{AreEntities, MakesCycle, 
 use Rattle.site_steps.specs.declared.fault.SiteFault.{SiteFault}
 use Rattle.site_steps.specs.declared.fault.SiteFault.TheVariants as fault
 use Rattle.site_steps.specs.declared.outcome.Put.{Put}
-use Rattle.site_steps.specs.Admitted.{IsEntityUnder, IsAdmitted, IsNotAdmitted, bad_id, no_policy, not_passing, entity_stated}
+use Rattle.site_steps.specs.Admitted.{IsEntityUnder, IsAdmitted, IsNotAdmitted, bad_id, too_long, no_text, no_policy}
+use Rattle.site_steps.specs.Admitted.{not_passing, entity_stated}
+use Rattle.site_steps.specs.Readings.{parsed}
 use Rattle.site_steps.specs.Steps.{most_count, Records, IsClockFull, PutsPolicy, PutsEntity, Deletes}
+use Rattle.site_steps.specs.Steps.{DeletesPolicy, DeletesEntity}
 use Rattle.site_steps.specs.Outcomes.{ReportsNoFailedAllocation}
 
 -- ---- what is stamped and stored
@@ -94,6 +102,12 @@ policy_comes schema n s id text (Err fault.NotThere) t h m = refused fault.NotTh
 policy_comes schema n s id text (Err fault.WouldCycle) t h m = refused fault.WouldCycle t h.0 h.1
 policy_comes schema n s id text (Err (fault.Request f)) t h m = refused (fault.Request f) t h.0 h.1
 
+not_both_sizes : (text : List ℕ) → most_policy_bytes < length text → length text ≤ most_policy_bytes → ⊥
+not_both_sizes text long fits = omega arith
+
+same_text_fault : (f g : ReadFault) → f ≡ g → fault.Policy f ≡ fault.Policy g
+same_text_fault f g same = ap (λ (x : ReadFault). fault.Policy x) same
+
 module _ (schema : StatedSchema) (texts : HasOneReading IsPolicyText IsPolicyRefused) (checks : PoliciesHaveOneOutcome)
     (apart : PassingIsNotRefused) where
   one_check : (p : Policy) (f g : TypeFault) → IsCheckRefused schema p f → IsCheckRefused schema p g → f ≡ g
@@ -102,25 +116,50 @@ module _ (schema : StatedSchema) (texts : HasOneReading IsPolicyText IsPolicyRef
       let same : check_refused f ≡ check_refused g = only (check_refused f) h ∙ sym (only (check_refused g) k) in
       cc
 
+  too_long_refused : (text : List ℕ) → most_policy_bytes < length text → IsPolicyRefused text TooLong
+  too_long_refused text long = inl long
+
   not_admitted : (id text : List ℕ) (p : Policy) (f : SiteFault) → IsAdmitted schema id text p
       → IsNotAdmitted schema id text f → ⊥
   not_admitted id text p _ a (bad_id named) = named a.named
-  not_admitted id text p _ a (no_policy f named h) = texts.not_both text p f a.reads.is_text h
-  not_admitted id text p _ a (not_passing q f named is h) = apart schema p f a.reads.passes
+  not_admitted id text p _ a (too_long named long) =
+      texts.not_both text p TooLong a.reads.is_text (too_long_refused text long)
+  not_admitted id text p _ a (no_text named fits other) = other a.utf8
+  not_admitted id text p _ a (no_policy f named utf8 h) = texts.not_both text p f a.reads.is_text h
+  not_admitted id text p _ a (not_passing q f named utf8 is h) = apart schema p f a.reads.passes
       (subst (λ (x : Policy). IsCheckRefused schema x f) (texts.one_value text q p is a.reads.is_text) h)
 
   one_refusal : (id text : List ℕ) (f g : SiteFault) → IsNotAdmitted schema id text f → IsNotAdmitted schema id text g
       → f ≡ g
   one_refusal id text _ _ (bad_id a) (bad_id b) = refl
-  one_refusal id text _ _ (bad_id a) (no_policy g b k) = absurd (a b)
-  one_refusal id text _ _ (bad_id a) (not_passing q g b is k) = absurd (a b)
-  one_refusal id text _ _ (no_policy f a h) (bad_id b) = absurd (b a)
-  one_refusal id text _ _ (no_policy f a h) (no_policy g b k) =
-      ap (λ (x : ReadFault). fault.Policy x) (texts.one_refusal text f g h k)
-  one_refusal id text _ _ (no_policy f a h) (not_passing q g b is k) = absurd (texts.not_both text q f is h)
-  one_refusal id text _ _ (not_passing p f a is h) (bad_id b) = absurd (b a)
-  one_refusal id text _ _ (not_passing p f a is h) (no_policy g b k) = absurd (texts.not_both text p g is k)
-  one_refusal id text _ _ (not_passing p f a is h) (not_passing q g b are k) =
+  one_refusal id text _ _ (bad_id a) (too_long b m) = absurd (a b)
+  one_refusal id text _ _ (bad_id a) (no_text b small apart_b) = absurd (a b)
+  one_refusal id text _ _ (bad_id a) (no_policy g b v k) = absurd (a b)
+  one_refusal id text _ _ (bad_id a) (not_passing q g b v are k) = absurd (a b)
+  one_refusal id text _ _ (too_long a l) (bad_id b) = absurd (b a)
+  one_refusal id text _ _ (too_long a l) (too_long b m) = refl
+  one_refusal id text _ _ (too_long a l) (no_text b small apart_b) = absurd (not_both_sizes text l small)
+  one_refusal id text _ _ (too_long a l) (no_policy g b v k) =
+      same_text_fault TooLong g (texts.one_refusal text TooLong g (too_long_refused text l) k)
+  one_refusal id text _ _ (too_long a l) (not_passing q g b v are k) =
+      absurd (texts.not_both text q TooLong are (too_long_refused text l))
+  one_refusal id text _ _ (no_text a fits other) (bad_id b) = absurd (b a)
+  one_refusal id text _ _ (no_text a fits other) (too_long b m) = absurd (not_both_sizes text m fits)
+  one_refusal id text _ _ (no_text a fits other) (no_text b small apart_b) = refl
+  one_refusal id text _ _ (no_text a fits other) (no_policy g b v k) = absurd (other v)
+  one_refusal id text _ _ (no_text a fits other) (not_passing q g b v are k) = absurd (other v)
+  one_refusal id text _ _ (no_policy f a u h) (bad_id b) = absurd (b a)
+  one_refusal id text _ _ (no_policy f a u h) (too_long b m) =
+      same_text_fault f TooLong (texts.one_refusal text f TooLong h (too_long_refused text m))
+  one_refusal id text _ _ (no_policy f a u h) (no_text b small apart_b) = absurd (apart_b u)
+  one_refusal id text _ _ (no_policy f a u h) (no_policy g b v k) = same_text_fault f g (texts.one_refusal text f g h k)
+  one_refusal id text _ _ (no_policy f a u h) (not_passing q g b v are k) = absurd (texts.not_both text q f are h)
+  one_refusal id text _ _ (not_passing p f a u is h) (bad_id b) = absurd (b a)
+  one_refusal id text _ _ (not_passing p f a u is h) (too_long b m) =
+      absurd (texts.not_both text p TooLong is (too_long_refused text m))
+  one_refusal id text _ _ (not_passing p f a u is h) (no_text b small apart_b) = absurd (apart_b u)
+  one_refusal id text _ _ (not_passing p f a u is h) (no_policy g b v k) = absurd (texts.not_both text p g is k)
+  one_refusal id text _ _ (not_passing p f a u is h) (not_passing q g b v are k) =
       ap (λ (x : TypeFault). fault.Check x) (one_check p f g h
       (subst (λ (x : Policy). IsCheckRefused schema x g) (texts.one_value text q p are is) k))
 
@@ -183,6 +222,60 @@ one_delete n s name _ _ _ _ (absent t h i) (deleted b u k l) = absurd (none_ther
 one_delete n s name _ _ _ _ (absent t h i) (unstamped u k l) = absurd (none_there (text_under s name) k h)
 one_delete n s name _ _ _ _ (absent t h i) (absent u k l) = (refl, i ∙ sym l)
 
+-- the id is UTF-8, or it is not
+pub data PolicyDeleteComes (n : List ℕ) (s : Store) (id : List ℕ) : Result Stamp SiteFault → Store → Type 0 where
+  an_id : (r : Result Stamp SiteFault) (t : Store) → IsUtf8 id → DeleteComes n s (policy_name id) r t
+      → PolicyDeleteComes n s id r t
+  no_id : (f : ReadFault) (t : Store) → f ≡ BadId → (IsUtf8 id → ⊥) → t ≡ s
+      → PolicyDeleteComes n s id (Err (fault.Policy f)) t
+
+pub policy_delete_comes : (n : List ℕ) (s : Store) (id : List ℕ) (r : Result Stamp SiteFault) (t : Store)
+    → DeletesPolicy n s id r t → ReportsNoFailedAllocation r → PolicyDeleteComes n s id r t
+policy_delete_comes n s id (Err fault.NoMemory) t h m = absurd m
+policy_delete_comes n s id (Err (fault.Policy f)) t h m = no_id f t h.0 h.1 h.2
+policy_delete_comes n s id r t h m = an_id r t h.0 (delete_comes n s (policy_name id) r t h.1 m)
+
+pub one_policy_delete : (n : List ℕ) (s : Store) (id : List ℕ) (x y : Result Stamp SiteFault) (t u : Store)
+    → PolicyDeleteComes n s id x t → PolicyDeleteComes n s id y u → (x ≡ y) × (t ≡ u)
+one_policy_delete n s id _ _ _ _ (an_id x t a h) (an_id y u b k) = one_delete n s (policy_name id) x y t u h k
+one_policy_delete n s id _ _ _ _ (an_id x t a h) (no_id g u e b k) = absurd (b a)
+one_policy_delete n s id _ _ _ _ (no_id f t e a h) (an_id y u b k) = absurd (a b)
+one_policy_delete n s id _ _ _ _ (no_id f t e a h) (no_id g u i b k) =
+    (ap (λ (x : ReadFault). Err (fault.Policy x)) (e ∙ sym i), h ∙ sym k)
+
+-- the JSON names an entity, or it does not
+pub data EntityDeleteComes (n : List ℕ) (s : Store) (json : Option Data) : Result Stamp SiteFault → Store → Type 0 where
+  a_uid : (r : Result Stamp SiteFault) (t : Store) (uid : EntityUid) → option_and_then uid_in json ≡ Some uid
+      → DeleteComes n s (entity_name uid) r t → EntityDeleteComes n s json r t
+  no_uid : (f : EntityFault) (t : Store) → f ≡ BadShape → option_and_then uid_in json ≡ None → t ≡ s
+      → EntityDeleteComes n s json (Err (fault.Entity f)) t
+
+pub entity_delete_comes : (schema : StatedSchema) (n : List ℕ) (s : Store) (json : Option Data)
+    (r : Result Stamp SiteFault) (t : Store) → DeletesEntity (parsed schema) n s json r t → ReportsNoFailedAllocation r
+    → EntityDeleteComes n s json r t
+entity_delete_comes schema n s json (Err fault.NoMemory) t h m = absurd m
+entity_delete_comes schema n s json (Err (fault.Entity f)) t h m = no_uid f t h.0 h.1 h.2
+entity_delete_comes schema n s json r t h m = a_uid r t h.0 h.1 (delete_comes n s (entity_name h.0) r t h.2 m)
+
+same_uid_named : (o : Option EntityUid) (uid other : EntityUid) → o ≡ Some uid → o ≡ Some other → other ≡ uid
+same_uid_named o uid other h k = cc
+
+uid_or_none : (o : Option EntityUid) (uid : EntityUid) → o ≡ Some uid → o ≡ None → ⊥
+uid_or_none o uid h k = absurd (cc)
+
+pub one_entity_delete : (n : List ℕ) (s : Store) (json : Option Data) (x y : Result Stamp SiteFault) (t u : Store)
+    → EntityDeleteComes n s json x t → EntityDeleteComes n s json y u → (x ≡ y) × (t ≡ u)
+one_entity_delete n s json _ _ _ _ (a_uid x t uid e h) (a_uid y u other i k) =
+    one_delete n s (entity_name uid) x y t u h
+    (subst (λ (z : EntityUid). DeleteComes n s (entity_name z) y u)
+    (same_uid_named (option_and_then uid_in json) uid other e i) k)
+one_entity_delete n s json _ _ _ _ (a_uid x t uid e h) (no_uid g u i none k) =
+    absurd (uid_or_none (option_and_then uid_in json) uid e none)
+one_entity_delete n s json _ _ _ _ (no_uid f t e none h) (a_uid y u uid i k) =
+    absurd (uid_or_none (option_and_then uid_in json) uid i none)
+one_entity_delete n s json _ _ _ _ (no_uid f t e none h) (no_uid g u i also k) =
+    (ap (λ (x : EntityFault). Err (fault.Entity x)) (e ∙ sym i), h ∙ sym k)
+
 -- ---- entities
 
 pub data EntityComes (schema : StatedSchema) (n : List ℕ) (s : Store) (json : Option Data) : Result Stamp SiteFault → Store
@@ -199,7 +292,7 @@ pub data EntityComes (schema : StatedSchema) (n : List ℕ) (s : Store) (json : 
       → EntityComes schema n s json (Err (fault.Entity f)) t
 
 pub entity_comes : (schema : StatedSchema) (n : List ℕ) (s : Store) (json : Option Data) (r : Result Stamp SiteFault) (t : Store)
-    → PutsEntity schema n s json r t → ReportsNoFailedAllocation r → EntityComes schema n s json r t
+    → PutsEntity (parsed schema) n s json r t → ReportsNoFailedAllocation r → EntityComes schema n s json r t
 entity_comes schema n s json (Ok stamp) t h m = kept stamp t h.0 h.1 h.2 h.3
 entity_comes schema n s json (Err fault.NoMemory) t h m = absurd m
 entity_comes schema n s json (Err (fault.Policy f)) t h m = absurd h

@@ -5,6 +5,7 @@ use Rattle.site_store.specs.authoriser.declared.answer.Answer.{Answer}
 use Rattle.json_words.specs.Json.{json_of}
 use Rattle.site_store.specs.schema.Schemas.{StatedSchema, IsSchemaOf}
 use Rattle.site_store.specs.stamped_store.Store.{Store}
+use Rattle.site_steps.specs.Readings.{parsed}
 use Rattle.site_steps.specs.Steps.{Answers}
 use Rattle.site_soundness.specs.Answers.{HasPermittedErrors, StoredAnswersAreSound}
 use Rattle.site_steps.specs.Inputs.{Input}
@@ -15,7 +16,7 @@ use Rattle.site_steps.specs.Permitted.{IsPermittedReply, ArePermittedReplies, Ru
 use Rattle.site_steps.specs.Runs.{Step, Run}
 
 module _ (law : StoredAnswersAreSound) (bytes : List ℕ) (schema : StatedSchema) (stated : IsSchemaOf bytes schema) where
-  answer_right : (s : Store) (json : Option Data) (a : Answer) → Answers schema s json (Ok a) → HasPermittedErrors a
+  answer_right : (s : Store) (json : Option Data) (a : Answer) → Answers (parsed schema) s json (Ok a) → HasPermittedErrors a
   answer_right s None a h = absurd h.1
   answer_right s (Some d) a h = law bytes schema stated s d h.0 h.1 a h.2
 

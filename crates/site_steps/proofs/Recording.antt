@@ -21,7 +21,9 @@ use Rattle.site_soundness.specs.message_format.Updates.{AreInRange, stamped}
 use Rattle.site_store.specs.site_meaning.StoreMeaning.{MakesCycle, MakesNoCycle}
 use Rattle.site_steps.specs.declared.fault.SiteFault.{SiteFault}
 use Rattle.site_steps.specs.declared.fault.SiteFault.TheVariants as fault
-use Rattle.site_steps.specs.Admitted.{IsEntityUnder, IsNotAdmitted, bad_id, no_policy, not_passing, entity_stated}
+use Rattle.site_steps.specs.Admitted.{IsEntityUnder, IsNotAdmitted, bad_id, too_long, no_text, no_policy, not_passing}
+use Rattle.site_steps.specs.Admitted.{entity_stated}
+use Rattle.site_steps.specs.Readings.{parsed}
 use Rattle.site_steps.specs.SiteViews.{IsHeld, IsSite}
 use Rattle.site_steps.specs.Steps.{Records, PutsPolicy, PutsEntity, Deletes}
 use Rattle.site_steps.specs.inner.Recording.{RecordsOr, PutsUnless, IsNext, put_result, IsStatedBy, IsNoEntityFault, IsCheckedPolicy}
@@ -92,8 +94,10 @@ puts_policy schema n s id text b impossible (Err (fault.Request f)) t j h = absu
 none_clock_full : (schema : StatedSchema) (id text : List ℕ) (f : SiteFault) → IsNotAdmitted schema id text f
     → f ≡ fault.ClockFull → ⊥
 none_clock_full schema id text _ (bad_id named) e = absurd (cc)
-none_clock_full schema id text _ (no_policy f named h) e = absurd (cc)
-none_clock_full schema id text _ (not_passing p f named is h) e = absurd (cc)
+none_clock_full schema id text _ (too_long named long) e = absurd (cc)
+none_clock_full schema id text _ (no_text named fits other) e = absurd (cc)
+none_clock_full schema id text _ (no_policy f named utf8 h) e = absurd (cc)
+none_clock_full schema id text _ (not_passing p f named utf8 is h) e = absurd (cc)
 
 pub refuses_policy : (schema : StatedSchema) (n : List ℕ) (s : Store) (id text : List ℕ) (f : SiteFault)
     → OrNoMemory fault.NoMemory (IsNotAdmitted schema id text) f → PutsPolicy schema n s id text (Err f) s
@@ -119,7 +123,7 @@ put_stands s name x y impossible (Err f) e h = tt
 puts_apart : (schema : StatedSchema) (n : List ℕ) (s : Store) (json : Option Data) (b : ReadText Entity)
     (r : Result Stamp SiteFault) (t : Store) → IsStatedBy schema json b
     → MakesNoCycle (IsEntityUnder schema) schema s b.read → RecordsOr n s (entity_name b.read.uid) (Some b.text) r t
-    → PutsEntity schema n s json r t
+    → PutsEntity (parsed schema) n s json r t
 puts_apart schema n s json b (Ok stamp) t i apart h = (
   b.read,
   i.states,
@@ -140,14 +144,14 @@ pub puts_entity : {E : Type 0} → (schema : StatedSchema) (n : List ℕ) (s : S
     (cycle : Result Bool E) (uid : EntityUid) (r : Result Stamp SiteFault) (t : Store) → IsStatedBy schema json b
     → uid ≡ b.read.uid → IfOk cycle (λ yes. yes ≡ true → MakesCycle (IsEntityUnder schema) schema s b.read)
     → IfOk cycle (λ yes. yes ≡ false → MakesNoCycle (IsEntityUnder schema) schema s b.read)
-    → PutsUnless n s cycle uid b.text r t → PutsEntity schema n s json r t
+    → PutsUnless n s cycle uid b.text r t → PutsEntity (parsed schema) n s json r t
 puts_entity schema n s json b (Ok true) uid r t i named makes apart h =
-    subst (λ q. PutsEntity schema n s json q t) (sym h.0) ((b.read, i.states, makes refl), h.1)
+    subst (λ q. PutsEntity (parsed schema) n s json q t) (sym h.0) ((b.read, i.states, makes refl), h.1)
 puts_entity schema n s json b (Ok false) uid r t i named makes apart h =
     puts_apart schema n s json b r t i (apart refl)
     (subst (λ (u : EntityUid). RecordsOr n s (entity_name u) (Some b.text) r t) named h)
 puts_entity schema n s json b (Err e) uid r t i named makes apart h =
-    subst (λ q. PutsEntity schema n s json q t) (sym h.0) h.1
+    subst (λ q. PutsEntity (parsed schema) n s json q t) (sym h.0) h.1
 
 -- what was put is in the store, whether or not it might have been cyclic
 pub put_or_not : {E : Type 0} → ((s : Store) (name : Name) (n : List ℕ) (body : Option (List ℕ))
@@ -162,7 +166,7 @@ put_or_not law n s (Err e) uid text r t h =
     subst (λ q. IfOk q (λ stamp. get t (entity_name uid) ≡ Some (issued stamp (Some text)))) (sym h.0) tt
 
 pub refuses_entity : (schema : StatedSchema) (n : List ℕ) (s : Store) (json : Option Data) (f : SiteFault)
-    → OrNoMemory fault.NoMemory (IsNoEntityFault schema json) f → PutsEntity schema n s json (Err f) s
+    → OrNoMemory fault.NoMemory (IsNoEntityFault schema json) f → PutsEntity (parsed schema) n s json (Err f) s
 refuses_entity schema n s json fault.NoMemory h = refl
 refuses_entity schema n s json (fault.Policy f) h = absurd (h (λ e. cc))
 refuses_entity schema n s json (fault.Check f) h = absurd (h (λ e. cc))

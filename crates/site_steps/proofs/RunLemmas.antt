@@ -22,14 +22,16 @@ use Rattle.site_steps.specs.declared.fault.SiteFault.{SiteFault}
 use Rattle.site_steps.specs.declared.fault.SiteFault.TheVariants as fault
 use Rattle.site_steps.specs.declared.outcome.Taken.TheVariants.{All, Short}
 use Rattle.site_steps.specs.Admitted.{IsPolicyUnder, IsEntityUnder, IsValidUnder}
-use Rattle.site_steps.specs.Steps.{PutsPolicy, PutsEntity, Deletes}
+use Rattle.site_steps.specs.Readings.{parsed}
+use Rattle.site_steps.specs.Steps.{PutsPolicy, PutsEntity, Deletes, DeletesPolicy, DeletesEntity}
 use Rattle.site_steps.specs.Inputs.{Input}
 use Rattle.site_steps.specs.Inputs as input
 use Rattle.site_steps.specs.declared.reply.Reply.{Reply}
 use Rattle.site_steps.specs.declared.reply.Reply.TheVariants as reply
 use Rattle.site_store.specs.schema.SchemaEntries.{SchemaEntries}
 use Rattle.site_soundness.specs.sync_messages.declared.texts.SchemaTexts.{SchemaTexts}
-use Rattle.site_steps.specs.Runs.{IsNoMessageOf, Step, Run, IsLeftBy, took_by, took, update_of_entity, updates_of_message}
+use Rattle.site_steps.specs.Runs.{IsNoMessageOf, Step, Run, IsLeftBy, took_by, took, update_of_entity, update_of_deletion}
+use Rattle.site_steps.specs.Runs.{updates_of_message}
 
 -- updates of a message that are in range and read are valid
 pub all_valid : (schema : StatedSchema) (us : List (SentUpdate Policy Entity)) → AreInRange (plain_updates us)
@@ -52,7 +54,7 @@ policy_kept schema n s id text fault.ClockFull t h = h.1.1
 policy_kept schema n s id text (fault.Request f) t h = h.1
 
 entity_kept : (schema : StatedSchema) (n : List ℕ) (s : Store) (json : Option Data) (f : SiteFault) (t : Store)
-    → PutsEntity schema n s json (Err f) t → t ≡ s
+    → PutsEntity (parsed schema) n s json (Err f) t → t ≡ s
 entity_kept schema n s json fault.NoMemory t h = h
 entity_kept schema n s json (fault.Policy f) t h = absurd h
 entity_kept schema n s json (fault.Check f) t h = absurd h
@@ -73,6 +75,18 @@ delete_kept n s name fault.NotThere t h = h.1
 delete_kept n s name fault.WouldCycle t h = absurd h
 delete_kept n s name fault.ClockFull t h = h.1.1
 delete_kept n s name (fault.Request f) t h = absurd h
+
+policy_not_deleted : (n : List ℕ) (s : Store) (id : List ℕ) (f : SiteFault) (t : Store) → DeletesPolicy n s id (Err f) t
+    → t ≡ s
+policy_not_deleted n s id fault.NoMemory t h = h
+policy_not_deleted n s id (fault.Policy f) t h = h.2
+policy_not_deleted n s id f t h = delete_kept n s (policy_name id) f t h.1
+
+entity_not_deleted : (schema : StatedSchema) (n : List ℕ) (s : Store) (json : Option Data) (f : SiteFault) (t : Store)
+    → DeletesEntity (parsed schema) n s json (Err f) t → t ≡ s
+entity_not_deleted schema n s json fault.NoMemory t h = h
+entity_not_deleted schema n s json (fault.Entity f) t h = h.2
+entity_not_deleted schema n s json f t h = delete_kept n s (entity_name h.0) f t h.2
 
 -- ---- what entered by a step is in the store after it
 
@@ -103,9 +117,9 @@ step_took law schema n s (input.PutPolicy id text) (reply.Answered r) t h = absu
 step_took law schema n s (input.PutPolicy id text) (reply.Found r) t h = absurd h
 step_took law schema n s (input.PutPolicy id text) (reply.Written r) t h = absurd h
 step_took law schema n s (input.DeletePolicy id) (reply.Put r) t h = absurd h
-step_took law schema n s (input.DeletePolicy id) (reply.Stamped (Ok stamp)) t h = h.1.store
+step_took law schema n s (input.DeletePolicy id) (reply.Stamped (Ok stamp)) t h = h.1.1.store
 step_took law schema n s (input.DeletePolicy id) (reply.Stamped (Err f)) t h =
-    unchanged law s t (delete_kept n s (policy_name id) f t h)
+    unchanged law s t (policy_not_deleted n s id f t h)
 step_took law schema n s (input.DeletePolicy id) (reply.Taken r) t h = absurd h
 step_took law schema n s (input.DeletePolicy id) (reply.Answered r) t h = absurd h
 step_took law schema n s (input.DeletePolicy id) (reply.Found r) t h = absurd h
@@ -120,9 +134,10 @@ step_took law schema n s (input.PutEntity b) (reply.Answered r) t h = absurd h
 step_took law schema n s (input.PutEntity b) (reply.Found r) t h = absurd h
 step_took law schema n s (input.PutEntity b) (reply.Written r) t h = absurd h
 step_took law schema n s (input.DeleteEntity uid) (reply.Put r) t h = absurd h
-step_took law schema n s (input.DeleteEntity uid) (reply.Stamped (Ok stamp)) t h = h.1.store
+step_took law schema n s (input.DeleteEntity uid) (reply.Stamped (Ok stamp)) t h =
+    h.2.1.store ∙ ap (λ x. store_of (updates s ++ update_of_deletion stamp x)) (sym h.1)
 step_took law schema n s (input.DeleteEntity uid) (reply.Stamped (Err f)) t h =
-    unchanged law s t (delete_kept n s (entity_name uid) f t h)
+    unchanged law s t (entity_not_deleted schema n s _ f t h)
 step_took law schema n s (input.DeleteEntity uid) (reply.Taken r) t h = absurd h
 step_took law schema n s (input.DeleteEntity uid) (reply.Answered r) t h = absurd h
 step_took law schema n s (input.DeleteEntity uid) (reply.Found r) t h = absurd h
@@ -225,7 +240,7 @@ message_valid schema bytes us h = all_valid schema us h.in_range h.are_read
 
 -- an error that is due, as a site's
 pub message_refused : (schema : StatedSchema) (bytes : List ℕ) (f : MessageFault) → OrNoMemory sending.NoMemory (IsMessageFaultOf schema bytes) f
-    → IsNoMessageOf schema bytes (of_message f)
+    → IsNoMessageOf (parsed schema) bytes (of_message f)
 message_refused schema bytes sending.NoMemory due = tt
 message_refused schema bytes sending.NotJson due = due (λ e. absurd cc)
 message_refused schema bytes sending.BadShape due = due (λ e. absurd cc)

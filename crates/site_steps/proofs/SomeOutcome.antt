@@ -4,7 +4,9 @@ use Rattle.std.specs.Prelude.{Contains, if◌then◌else◌}
 use Rattle.std.specs.Prelude.{Option, Some, None, IsSome, option_and_then, option_map, Result, Ok, Err, refl}
 use Rattle.std.specs.List.{AllZip, flat_map}
 use Rattle.std.proofs.Common.{sym, ap, ◌∙◌, subst, arith, inl, inr}
-use Rattle.std.proofs.lemmas.Bool.{cases_lt}
+use Rattle.std.proofs.lemmas.Bool.{cases_Bool, cases_lt}
+use Rattle.std.specs.Str.{IsUtf8, is_utf8}
+use Rattle.std.proofs.lemmas.Str.{IsUtf8-from_is_utf8, is_utf8-from_IsUtf8}
 use Rattle.std.proofs.lemmas.List.Elements.{All-contains, All-from_recursion, Contains-append_left}
 use Rattle.std.proofs.lemmas.List.Elements.{Contains-append_right}
 use Rattle.std.specs.FinMap.{get}
@@ -17,8 +19,8 @@ use Rattle.values.specs.declared.name.Name.TheVariants as name
 use Rattle.values.specs.declared.request.Request.{Request}
 use Rattle.values.specs.Names.{uid_cmp}
 use Rattle.site_store.specs.policy_grammar.declared.policy.Policy.{Policy}
-use Rattle.site_store.specs.policy_grammar.declared.fault.ReadFault.TheVariants.{BadId}
-use Rattle.site_store.specs.policy_grammar.Limits.{IsId}
+use Rattle.site_store.specs.policy_grammar.declared.fault.ReadFault.TheVariants.{BadId, BadToken, TooLong}
+use Rattle.site_store.specs.policy_grammar.Limits.{IsId, most_policy_bytes}
 use Rattle.site_store.specs.ancestor_search.Decided.{HaveAllParents, PathsAreDecided, reaches}
 use Rattle.site_store.specs.ancestor_search.Deciding.{Contains-cases, Contains-here, Contains-none, Contains-there, same_uid}
 use Rattle.site_store.specs.authoriser.declared.answer.Answer.{Answer}
@@ -43,6 +45,7 @@ use Rattle.site_store.specs.stamped_store.Store.{Store, Update, IsStoreOf, updat
 use Rattle.site_store.specs.stamped_store.Store.{entity_name}
 use Rattle.site_store.specs.site_meaning.StoreMeaning.{ArePolicies, AreEntities, IsReadFrom, IsAnswerOver, MakesCycle, MakesNoCycle}
 use Rattle.site_store.specs.site_meaning.StoreMeaning.{data_of, parents_with, entity_data_under}
+use Rattle.site_soundness.specs.entity_uids.Uids.{uid_in}
 use Rattle.site_soundness.specs.message_format.declared.fault.MessageFault.{MessageFault}
 use Rattle.site_soundness.specs.message_format.Summaries.{summary_text, summary_stated, IsStamped}
 use Rattle.site_soundness.specs.message_format.declared.bodies.BodyFault.{BodyFault}
@@ -56,16 +59,19 @@ use Rattle.site_steps.specs.declared.fault.SiteFault.{SiteFault}
 use Rattle.site_steps.specs.declared.fault.SiteFault.TheVariants as fault
 use Rattle.site_steps.specs.declared.outcome.Taken as taking
 use Rattle.site_steps.specs.declared.outcome.Taken.TheVariants.{All}
-use Rattle.site_steps.specs.Admitted.{IsPolicyUnder, IsEntityUnder, IsAdmitted, bad_id, no_policy, not_passing, entity_stated}
+use Rattle.site_steps.specs.Admitted.{IsPolicyUnder, IsEntityUnder, IsPolicyId, IsAdmitted, bad_id, too_long, no_text}
+use Rattle.site_steps.specs.Admitted.{no_policy, not_passing, entity_stated}
+use Rattle.site_steps.specs.Readings.{parsed}
 use Rattle.site_steps.specs.SiteViews.{IsValidStore}
-use Rattle.site_steps.specs.Steps.{most_count, Records, IsClockFull, PutsPolicy, PutsEntity, Deletes, Answers, policy_found}
+use Rattle.site_steps.specs.Steps.{most_count, Records, IsClockFull, PutsPolicy, PutsEntity, Deletes, DeletesPolicy}
+use Rattle.site_steps.specs.Steps.{DeletesEntity, Answers, policy_found}
 use Rattle.site_steps.specs.Inputs.{Input}
 use Rattle.site_steps.specs.Inputs as input
 use Rattle.site_steps.specs.declared.reply.Found.{Found}
 use Rattle.site_steps.specs.declared.reply.Reply.{Reply}
 use Rattle.site_steps.specs.declared.reply.Reply.TheVariants as reply
 use Rattle.site_soundness.specs.sync_messages.Messages.{IsMessageOf, IsMessageFaultOf}
-use Rattle.site_steps.specs.Runs.{TakesMessage, WritesDelta}
+use Rattle.site_steps.specs.Runs.{TakesMessage, Finds, WritesDelta}
 use Rattle.site_steps.specs.Outcomes.{ReportsNoFailedAllocation, ReportsNoFailedAllocationForAll, IsOutcome}
 
 -- a result that a command may have, and the store after it
@@ -93,13 +99,28 @@ stamped_or_full n s q body h = elim (below_or_at (greatest_count s) most_count h
 
 -- ---- policies
 
-id_or_not : (id : List ℕ) → IsId id ⊎ (IsId id → ⊥)
-id_or_not id = elim (cases_lt (length id) 1) [
+sized_or_not : (id : List ℕ) → IsId id ⊎ (IsId id → ⊥)
+sized_or_not id = elim (cases_lt (length id) 1) [
   | inl short ↦ inr (λ h. absurd (omega arith))
   | inr some ↦ elim (cases_lt 256 (length id)) [
     | inl long ↦ inr (λ h. absurd (omega arith))
     | inr fits ↦ inl (some, fits)
   ]
+]
+
+utf8_or_not : (bytes : List ℕ) → IsUtf8 bytes ⊎ (IsUtf8 bytes → ⊥)
+utf8_or_not bytes = elim (cases_Bool (is_utf8 bytes)) [
+  | inl is ↦ inl (IsUtf8-from_is_utf8 bytes is)
+  | inr other ↦ inr (λ h. let is = is_utf8-from_IsUtf8 bytes h in absurd (cc))
+]
+
+id_or_not : (id : List ℕ) → IsPolicyId id ⊎ (IsPolicyId id → ⊥)
+id_or_not id = elim (utf8_or_not id) [
+  | inl utf8 ↦ elim (sized_or_not id) [
+    | inl sized ↦ inl (record { utf8 = utf8; sized = sized })
+    | inr other ↦ inr (λ h. other h.sized)
+  ]
+  | inr other ↦ inr (λ h. other h.utf8)
 ]
 
 module _ (schema : StatedSchema) (checks : PoliciesHaveOneOutcome) (apart : PassingIsNotRefused)
@@ -118,15 +139,29 @@ module _ (schema : StatedSchema) (checks : PoliciesHaveOneOutcome) (apart : Pass
         | inr full ↦ (Err fault.ClockFull, s, ((p, h), full), tt)
       ]
 
-  refused_policy : (f : BodyFault) → IsId id → RefusesPolicy schema text f → Has (PutsPolicy schema n s id text)
-  refused_policy _ named (text_of_none f h) = (Err (fault.Policy f), s, (no_policy f named h, refl), tt)
-  refused_policy _ named (text_of_failing p f is h) = (Err (fault.Check f), s, (not_passing p f named is h, refl), tt)
+  refused_policy : (f : BodyFault) → IsPolicyId id → IsUtf8 text → RefusesPolicy schema text f
+      → Has (PutsPolicy schema n s id text)
+  refused_policy _ named utf8 (text_of_none f h) = (Err (fault.Policy f), s, (no_policy f named utf8 h, refl), tt)
+  refused_policy _ named utf8 (text_of_failing p f is h) =
+      (Err (fault.Check f), s, (not_passing p f named utf8 is h, refl), tt)
+
+  text_policy : IsPolicyId id → IsUtf8 text → Has (PutsPolicy schema n s id text)
+  text_policy named utf8 = elim (texts schema text).1 [
+    | inl read ↦ admitted_policy read.0 (record { named = named; utf8 = utf8; reads = read.1 })
+    | inr none ↦ refused_policy none.0 named utf8 none.1
+  ]
+
+  not_text_policy : IsPolicyId id → (IsUtf8 text → ⊥) → Has (PutsPolicy schema n s id text)
+  not_text_policy named other = elim (cases_lt most_policy_bytes (length text)) [
+    | inl long ↦ (Err (fault.Policy TooLong), s, (too_long named long, refl), tt)
+    | inr fits ↦ (Err (fault.Policy (BadToken 0)), s, (no_text named fits other, refl), tt)
+  ]
 
   some_policy : Has (PutsPolicy schema n s id text)
   some_policy = elim (id_or_not id) [
-    | inl named ↦ elim (texts schema text).1 [
-      | inl read ↦ admitted_policy read.0 (record { named = named; reads = read.1 })
-      | inr none ↦ refused_policy none.0 named none.1
+    | inl named ↦ elim (utf8_or_not text) [
+      | inl utf8 ↦ text_policy named utf8
+      | inr other ↦ not_text_policy named other
     ]
     | inr unnamed ↦ (Err (fault.Policy BadId), s, (bad_id unnamed, refl), tt)
   ]
@@ -145,6 +180,32 @@ module _ (n : List ℕ) (s : Store) (room : greatest_count s ≤ most_count) (q 
 
   some_delete : Has (Deletes n s q)
   some_delete = delete_by (text_under s q) refl
+
+module _ (schema : StatedSchema) (n : List ℕ) (s : Store) (room : greatest_count s ≤ most_count) where
+  policy_deleted : (id : List ℕ) → IsUtf8 id → Has (Deletes n s (policy_name id)) → Has (DeletesPolicy n s id)
+  policy_deleted id utf8 (Err fault.NoMemory, t, h, m) = absurd m
+  policy_deleted id utf8 (Err (fault.Policy f), t, h, m) = absurd h
+  policy_deleted id utf8 (x, t, h, m) = (x, t, (utf8, h), m)
+
+  some_policy_delete : (id : List ℕ) → Has (DeletesPolicy n s id)
+  some_policy_delete id = elim (utf8_or_not id) [
+    | inl utf8 ↦ policy_deleted id utf8 (some_delete n s room (policy_name id))
+    | inr other ↦ (Err (fault.Policy BadId), s, (refl, other, refl), tt)
+  ]
+
+  entity_deleted : (json : Option Data) (uid : EntityUid) → option_and_then uid_in json ≡ Some uid
+      → Has (Deletes n s (entity_name uid)) → Has (DeletesEntity (parsed schema) n s json)
+  entity_deleted json uid is (Err fault.NoMemory, t, h, m) = absurd m
+  entity_deleted json uid is (Err (fault.Entity f), t, h, m) = absurd h
+  entity_deleted json uid is (x, t, h, m) = (x, t, (uid, is, h), m)
+
+  entity_delete_by : (json : Option Data) (o : Option EntityUid) → option_and_then uid_in json ≡ o
+      → Has (DeletesEntity (parsed schema) n s json)
+  entity_delete_by json None is = (Err (fault.Entity BadShape), s, (refl, is, refl), tt)
+  entity_delete_by json (Some uid) is = entity_deleted json uid is (some_delete n s room (entity_name uid))
+
+  some_entity_delete : (json : Option Data) → Has (DeletesEntity (parsed schema) n s json)
+  some_entity_delete json = entity_delete_by json (option_and_then uid_in json) refl
 
 -- ---- what a store says
 
@@ -291,7 +352,7 @@ module _ (stores : LawsOfStores) (schema : StatedSchema) (s : Store) (held : IsV
     -- ---- entities
 
     entity_by : PathsAreDecided → (n : List ℕ) (json : Option Data) (r : Result Entity EntityFault) → entity_stated schema json ≡ r
-        → Has (PutsEntity schema n s json)
+        → Has (PutsEntity (parsed schema) n s json)
     entity_by paths n json (Err f) is = (Err (fault.Entity f), s, (is, refl), tt)
     entity_by paths n json (Ok e) is = elim (cycle_by e paths (reaches (parents_with schema entities_held e) (e.uid ∷ held_uids) e.uid e.uid) refl) [
       | inl on ↦ (Err fault.WouldCycle, s, ((e, is, on), refl), tt)
@@ -308,7 +369,7 @@ ReadsOrRefuses schema bytes = ((us : List (SentUpdate Policy Entity)) × IsMessa
     ⊎ ((f : MessageFault) × IsMessageFaultOf schema bytes f)
 
 some_take : (schema : StatedSchema) (s : Store) (bytes : List ℕ) → ReadsOrRefuses schema bytes
-    → (x : Result taking.Taken SiteFault) × (t : Store) × TakesMessage schema s bytes x t × ReportsNoFailedAllocationForAll x
+    → (x : Result taking.Taken SiteFault) × (t : Store) × TakesMessage (parsed schema) s bytes x t × ReportsNoFailedAllocationForAll x
 some_take schema s bytes o = elim o [
   | inl m ↦ (Ok (All (length (plain_updates m.0))), store_of (updates s ++ plain_updates m.0), (m.0, m.1, (refl, refl)), tt)
   | inr f ↦ (Err (fault.Message f.0), s, (f.1, refl), tt)
@@ -319,7 +380,7 @@ AnswersAll schema s = (q : Request)
     → (a : Answer) × IsAnswerOver (IsPolicyUnder schema) (IsEntityUnder schema) schema s q a
 
 some_answer : (schema : StatedSchema) (s : Store) → RequestOrRefusal → AnswersAll schema s → (json : Option Data)
-    → (x : Result Answer SiteFault) × Answers schema s json x × ReportsNoFailedAllocation x
+    → (x : Result Answer SiteFault) × Answers (parsed schema) s json x × ReportsNoFailedAllocation x
 some_answer schema s asks answers None = (Err (fault.Request BadShape), refl, tt)
 some_answer schema s asks answers (Some d) = elim (asks schema d) [
   | inl asked ↦ let a = answers asked.0 in (Ok a.0, (asked.0, asked.1, a.1), tt)
@@ -335,9 +396,16 @@ unfolding found_of
 found_is None = refl
 found_is (Some p) = refl
 
+some_found : (s : Store) (id : List ℕ)
+    → (x : Result (Option Found) SiteFault) × Finds s id x × ReportsNoFailedAllocation x
+some_found s id = elim (utf8_or_not id) [
+  | inl utf8 ↦ (Ok (found_of (policy_found s id)), (utf8, found_is (policy_found s id)), tt)
+  | inr other ↦ (Err (fault.Policy BadId), (refl, other), tt)
+]
+
 delta_by : (schema : StatedSchema) (s : Store) (bytes : List ℕ) (r : Result deltas.Summary MessageFault)
     → summary_stated schema.label bytes ≡ r
-    → (x : Result (List ℕ) SiteFault) × WritesDelta schema s bytes x × ReportsNoFailedAllocation x
+    → (x : Result (List ℕ) SiteFault) × WritesDelta (parsed schema) s bytes x × ReportsNoFailedAllocation x
 delta_by schema s bytes (Ok m) is = (Ok (delta_text schema.label (deltas.delta s m)), (m, is, refl), tt)
 delta_by schema s bytes (Err f) is = (Err (fault.Message f), is, tt)
 
@@ -367,14 +435,14 @@ some_step schema law n s (input.PutPolicy id text) held =
     let a = some_policy schema law.checks law.apart law.texts n s (room_in law.stores schema s held) id text in
     (reply.Put a.0, a.1, record { step = a.2; whole = a.3 })
 some_step schema law n s (input.DeletePolicy id) held =
-    let a = some_delete n s (room_in law.stores schema s held) (policy_name id) in
+    let a = some_policy_delete schema n s (room_in law.stores schema s held) id in
     (reply.Stamped a.0, a.1, record { step = a.2; whole = a.3 })
 some_step schema law n s (input.PutEntity bytes) held =
     let a = entity_by law.stores schema s held law.bytes law.is_schema law.paths n (json_of bytes)
     (entity_stated schema (json_of bytes)) refl in
     (reply.Stamped a.0, a.1, record { step = a.2; whole = a.3 })
-some_step schema law n s (input.DeleteEntity uid) held =
-    let a = some_delete n s (room_in law.stores schema s held) (entity_name uid) in
+some_step schema law n s (input.DeleteEntity bytes) held =
+    let a = some_entity_delete schema n s (room_in law.stores schema s held) (json_of bytes) in
     (reply.Stamped a.0, a.1, record { step = a.2; whole = a.3 })
 some_step schema law n s (input.Take bytes) held =
     let a = some_take schema s bytes (law.messages bytes) in
@@ -385,7 +453,8 @@ some_step schema law n s (input.Authorize bytes) held =
     (are_entities law.stores schema s held)) (json_of bytes) in
     (reply.Answered a.0, s, record { step = (a.1, refl); whole = a.2 })
 some_step schema law n s (input.GetPolicy id) held =
-    (reply.Found (Ok (found_of (policy_found s id))), s, record { step = (found_is (policy_found s id), refl); whole = tt })
+    let a = some_found s id in
+    (reply.Found a.0, s, record { step = (a.1, refl); whole = a.2 })
 some_step schema law n s input.State held =
     (reply.Written (Ok (state_text schema.label s)), s, record { step = (refl, refl); whole = tt })
 some_step schema law n s input.Summary held =

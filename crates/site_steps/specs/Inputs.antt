@@ -1,10 +1,9 @@
 -- Defines the inputs of a site, before any check.
 use Rattle.std.specs.Prelude.{ℕ, List}
-use Rattle.values.specs.declared.entity_uid.EntityUid.{EntityUid}
 use Rattle.site_steps.specs.declared.input.Input as code
 use Rattle.site_steps.specs.declared.input.Input.TheVariants as borrowed
 
--- An `Input` is a command, a message or a query for a site; strings and bytes are lists of bytes.
+-- An `Input` is a command, a message or a query for a site; each part is a list of bytes, as it came in.
 pub data Input : Type 0 where
   -- puts a policy: its id, and its text
   PutPolicy : List ℕ → List ℕ → Input
@@ -12,8 +11,8 @@ pub data Input : Type 0 where
   DeletePolicy : List ℕ → Input
   -- puts an entity: its JSON
   PutEntity : List ℕ → Input
-  -- deletes the entity of this uid
-  DeleteEntity : EntityUid → Input
+  -- deletes the entity whose uid has this JSON
+  DeleteEntity : List ℕ → Input
   -- applies the updates of a message: a state or a delta of another site
   Take : List ℕ → Input
   -- decides a request: its JSON
@@ -27,7 +26,7 @@ pub data Input : Type 0 where
   -- asks for a delta against another site's summary
   Delta : List ℕ → Input
 
--- `input_of i` is the input that the borrowed input `i` of the code represents.
+-- `input_of i` is the input `i` of the code, without its borrows.
 abbrev pub input_of : code.Input → Input
 input_of (borrowed.PutPolicy id text) = PutPolicy id.now text.now
 input_of (borrowed.DeletePolicy id) = DeletePolicy id.now

@@ -1,5 +1,6 @@
 pub mod Faults
 pub mod Admitted
+pub mod Readings
 pub mod SiteViews
 pub mod Steps
 pub mod inner

@@ -1,33 +1,134 @@
 //! The replies of a site to its inputs, one after another.
-ghost use Rattle.std.specs.Prelude.{◌≡◌, ◌++◌, IfOk, IfErr, OnErr, map};
+ghost use Rattle.std.specs.Prelude.{◌≡◌, ◌++◌, IfOk, IfErr, OnErr, map, option_and_then, option_map};
 ghost use Rattle.std.specs.List.{AllByRecursion};
+ghost use Rattle.std.specs.Str.{IsUtf8};
 ghost use Rattle.json_words.specs.Json.{json_of};
+ghost use Rattle.site_store.specs.schema.Schemas.{StatedSchema};
 ghost use Rattle.site_store.specs.schema.Views.{schema_view};
 ghost use Rattle.site_store.specs.stamped_store.Deltas.{summary_of};
 ghost use Rattle.site_store.specs.stamped_store.Store.{store_of, updates};
+ghost use Rattle.site_soundness.specs.entity_uids.Uids.{uid_in};
 ghost use Rattle.site_soundness.specs.message_format.Summaries.{summary_text};
 ghost use Rattle.site_soundness.specs.message_format.Messages.{state_text};
 ghost use Rattle.site_soundness.specs.sync_messages.Messages.{IsMessageOf};
 ghost use Rattle.site_soundness.specs.Answers.{HasPermittedErrors};
-ghost use Rattle.site_steps.specs.Admitted.{IsValidUnder};
+ghost use Rattle.site_steps.specs.declared.fault.SiteFault.TheVariants as fault;
+ghost use Rattle.site_steps.specs.Admitted.{IsNotAdmitted, IsValidUnder};
+ghost use Rattle.site_steps.specs.Readings.{parsed};
 ghost use Rattle.site_steps.specs.SiteViews.{schema_of, store_in, IsSameSite};
-ghost use Rattle.site_steps.specs.Steps.{PutsEntity, Answers};
+ghost use Rattle.site_steps.specs.Steps.{PutsPolicy, PutsEntity, DeletesPolicy, DeletesEntity, Answers};
+ghost use Rattle.site_steps.specs.Steps.{policy_found};
 ghost use Rattle.site_steps.specs.Inputs.{input_of};
 ghost use Rattle.site_steps.specs.Runs.{IsNoMessageOf, TakesMessage, Finds, Writes, WritesDelta};
 ghost use Rattle.site_steps.specs.Permitted.{ArePermittedReplies};
 ghost use Rattle.site_steps.specs.Runs.{Step, Run, took};
 
+use crate::checking::is_id;
 use crate::fault::SiteFault;
 use crate::input::Input;
 use crate::laws::runs_are_sound;
-use crate::outcome::Taken;
+use crate::outcome::{Put, Taken};
 use crate::reply::{Found, Reply};
 use crate::site::Site;
+use entity_uids::{MOST_POLICY_BYTES, read_uid};
 use json_words::{Scratch, read_json_by};
 use plain::{Items, NoMemory, Text};
-use site_soundness::{MessageFault, Summary, Update, read_summary, read_updates};
-use site_store::{Answer, Entity, EntityFault, Policy, Schema, Stamp, updates_have_one_store};
+use site_soundness::{MessageFault, Update, read_summary, read_updates};
+use site_store::{
+    Answer, Entity, EntityFault, Policy, ReadFault, Schema, Stamp, updates_have_one_store,
+};
 use std::alloc::Global;
+use values::EntityUid;
+
+// ---- policies by bytes
+
+/// Returns the first error of a policy whose text is not UTF-8: of its id (`BadId`, 19), of its length (`TooLong`, 18),
+/// else of its bytes (`BadToken`, 10).
+fn not_text(id: &str, text: &[u8]) -> ReadFault
+    ensures { (schema : StatedSchema) → (IsUtf8 text.now → ⊥)
+        → IsNotAdmitted schema id.now text.now (fault.Policy result) }
+{
+    if !is_id(id) {
+        return ReadFault::BadId;
+    }
+    if text.len() <= MOST_POLICY_BYTES {
+        ReadFault::BadToken(0)
+    } else {
+        ReadFault::TooLong
+    }
+}
+
+/// Puts a policy whose text is bytes. After an error the site is unchanged.
+fn put_text(site: &mut Site, id: &str, text: &[u8]) -> Result<Put, SiteFault>
+    ensures puts { PutsPolicy (schema_of site.old) site.old.name (store_in site.old) id.now text.now result
+        (store_in site.new) }
+    ensures same { IsSameSite site.old site.new }
+{
+    match str::from_utf8(text) {
+        Ok(text) => site.put_policy(id, text),
+        Err(_) => Err(SiteFault::Policy(not_text(id, text))),
+    }
+}
+
+/// Puts a policy. After an error the site is unchanged.
+///
+/// # Errors
+///
+/// In this order:
+///
+/// - `Policy` (19): the id is not UTF-8 of 1 to 256 bytes.
+/// - `Policy` (18, 10): the text has over 262,144 bytes, or is not UTF-8.
+/// - The errors of [`Site::put_policy`].
+fn put_policy(site: &mut Site, id: &[u8], text: &[u8]) -> Result<Put, SiteFault>
+    ensures puts { PutsPolicy (schema_of site.old) site.old.name (store_in site.old) id.now text.now result
+        (store_in site.new) }
+    ensures same { IsSameSite site.old site.new }
+{
+    match str::from_utf8(id) {
+        Ok(id) => put_text(site, id, text),
+        Err(_) => Err(SiteFault::Policy(ReadFault::BadId)),
+    }
+}
+
+/// Deletes the policy with the id `id`; an id that is not UTF-8 has the error `BadId` (19).
+fn delete_policy(site: &mut Site, id: &[u8]) -> Result<Stamp, SiteFault>
+    ensures deletes { DeletesPolicy site.old.name (store_in site.old) id.now result (store_in site.new) }
+    ensures same { IsSameSite site.old site.new }
+{
+    match str::from_utf8(id) {
+        Ok(id) => site.delete_policy(id),
+        Err(_) => Err(SiteFault::Policy(ReadFault::BadId)),
+    }
+}
+
+/// Returns the text and the stamp of the policy with this id, or `None` if the id has no text. The only error is
+/// `NoMemory`.
+fn found(alloc: Global, site: &Site, id: &str) -> Result<Option<Found>, SiteFault>
+    ensures found { IfOk result
+        (λ found. option_map (λ f. (f.text, f.stamp)) found ≡ policy_found (store_in site.now) id.now) }
+    ensures refused { IfErr result (λ f. f ≡ fault.NoMemory) }
+{
+    match site.get_policy(id) {
+        Some((text, stamp)) => {
+            let text = Text::from_str(alloc, text)?;
+            Ok(Some(Found { text, stamp }))
+        }
+        None => Ok(None),
+    }
+}
+
+/// Returns the text and the stamp of the policy with this id, or `None` if the id has no text. An id that is not UTF-8
+/// has the error `BadId` (19); the only other error is `NoMemory`.
+fn find_policy(alloc: Global, site: &Site, id: &[u8]) -> Result<Option<Found>, SiteFault>
+    ensures { Finds (store_in site.now) id.now result }
+{
+    match str::from_utf8(id) {
+        Ok(id) => found(alloc, site, id),
+        Err(_) => Err(SiteFault::Policy(ReadFault::BadId)),
+    }
+}
+
+// ---- entities by JSON
 
 /// Puts the entity that `bytes` describe as JSON. The site stores its canonical text.
 ///
@@ -43,7 +144,7 @@ fn put_entity(
     site: &mut Site,
     bytes: &[u8],
 ) -> Result<Stamp, SiteFault>
-    ensures puts { PutsEntity (schema_of site.old) site.old.name (store_in site.old) (json_of bytes.now) result
+    ensures puts { PutsEntity (parsed (schema_of site.old)) site.old.name (store_in site.old) (json_of bytes.now) result
         (store_in site.new) }
     ensures same { IsSameSite site.old site.new }
 {
@@ -54,6 +155,46 @@ fn put_entity(
     }
 }
 
+/// Returns the uid that `bytes` name as JSON, or `None` if they do not name one.
+fn named_entity(
+    alloc: Global,
+    scratch: &mut Scratch,
+    bytes: &[u8],
+) -> Result<Option<EntityUid>, NoMemory>
+    ensures { IfOk result (λ named. named ≡ option_and_then uid_in (json_of bytes.now)) }
+{
+    let Some(json) = read_json_by(scratch, alloc, bytes)? else {
+        return Ok(None);
+    };
+    read_uid(alloc, &json)
+}
+
+/// Deletes the entity that `bytes` name as JSON.
+///
+/// # Errors
+///
+/// In this order; the site is then unchanged:
+///
+/// - `Entity` with `BadShape` (30): the bytes name no entity.
+/// - The errors of [`Site::delete_entity`].
+fn delete_entity(
+    alloc: Global,
+    scratch: &mut Scratch,
+    site: &mut Site,
+    bytes: &[u8],
+) -> Result<Stamp, SiteFault>
+    ensures deletes { DeletesEntity (parsed (schema_of site.old)) site.old.name (store_in site.old)
+        (json_of bytes.now) result (store_in site.new) }
+    ensures same { IsSameSite site.old site.new }
+{
+    let Some(uid) = named_entity(alloc, scratch, bytes)? else {
+        return Err(SiteFault::Entity(EntityFault::BadShape));
+    };
+    site.delete_entity(&uid)
+}
+
+// ---- messages and queries
+
 /// Returns the updates of a message, each valid under the schema; or the site's error for the first error of the
 /// message, or `NoMemory`.
 fn updates_of(
@@ -63,32 +204,11 @@ fn updates_of(
 ) -> Result<Vec<Update<Policy, Entity>>, SiteFault>
     ensures read { IfOk result (λ us. IsMessageOf (schema_view schema.now) bytes.now us.items) }
     ensures valid { IfOk result (λ us. AllByRecursion (IsValidUnder (schema_view schema.now)) us.items) }
-    ensures refused { IfErr result (IsNoMessageOf (schema_view schema.now) bytes.now) }
+    ensures refused { IfErr result (IsNoMessageOf (parsed (schema_view schema.now)) bytes.now) }
 {
     match read_updates(alloc, schema, bytes) {
         Ok(updates) => Ok(updates),
         Err(fault) => Err(SiteFault::from(fault)),
-    }
-}
-
-/// Applies the updates of a message (a state or a delta of another site of the schema) in their order.
-///
-/// If the allocation for an update fails, the result is `Short(k)`, and exactly the first `k` updates are applied. A
-/// failed allocation for a cache only makes the cache absent.
-///
-/// # Errors
-///
-/// The site is then unchanged:
-///
-/// - `Message` (50 to 56): the first error of the bytes as a message of the schema; the message is rejected whole.
-/// - `NoMemory` (1): an allocation failed while the message was parsed.
-pub fn take_bytes(alloc: Global, site: &mut Site, bytes: &[u8]) -> Result<Taken, SiteFault>
-    ensures takes { TakesMessage (schema_of site.old) (store_in site.old) bytes.now result (store_in site.new) }
-    ensures same { IsSameSite site.old site.new }
-{
-    match updates_of(alloc, site.schema(), bytes) {
-        Ok(updates) => Ok(site.take(updates)),
-        Err(fault) => Err(fault),
     }
 }
 
@@ -107,27 +227,13 @@ fn authorize(
     site: &Site,
     bytes: &[u8],
 ) -> Result<Answer, SiteFault>
-    ensures answers { Answers (schema_of site.now) (store_in site.now) (json_of bytes.now) result }
+    ensures answers { Answers (parsed (schema_of site.now)) (store_in site.now) (json_of bytes.now) result }
     ensures right { IfOk result HasPermittedErrors }
 {
     match read_json_by(scratch, alloc, bytes) {
         Ok(Some(json)) => site.authorize(&json),
         Ok(None) => Err(SiteFault::Request(EntityFault::BadShape)),
         Err(_) => Err(SiteFault::NoMemory),
-    }
-}
-
-/// Returns the text and the stamp of the policy with this id, or `None` if the id has no text. The only error is
-/// `NoMemory`.
-fn find_policy(alloc: Global, site: &Site, id: &str) -> Result<Option<Found>, SiteFault>
-    ensures { Finds (store_in site.now) id.now result }
-{
-    match site.get_policy(id) {
-        Some((text, stamp)) => {
-            let text = Text::from_str(alloc, text)?;
-            Ok(Some(Found { text, stamp }))
-        }
-        None => Ok(None),
     }
 }
 
@@ -155,7 +261,7 @@ fn summary(site: &Site) -> Result<Items<u8>, SiteFault>
 /// - `Message` (50 to 55): the first error of the bytes as a summary of the schema, in the order of [`read_summary`].
 /// - `NoMemory` (1): an allocation failed; possible at any point.
 fn delta(alloc: Global, site: &Site, bytes: &[u8]) -> Result<Items<u8>, SiteFault>
-    ensures { WritesDelta (schema_of site.now) (store_in site.now) bytes.now result }
+    ensures { WritesDelta (parsed (schema_of site.now)) (store_in site.now) bytes.now result }
 {
     match read_summary(alloc, site.schema().label(), bytes) {
         Ok(since) => match site.delta(&since) {
@@ -167,59 +273,85 @@ fn delta(alloc: Global, site: &Site, bytes: &[u8]) -> Result<Items<u8>, SiteFaul
     }
 }
 
-/// Answers one input, in one step of the site.
-///
-/// `scratch` is memory that is reused from input to input; its content does not matter.
-pub fn answer(alloc: Global, scratch: &mut Scratch, site: &mut Site, input: &Input<'_>) -> Reply
-    ensures step { Step (schema_of site.old) site.old.name (store_in site.old) (input_of input.now) result
-        (store_in site.new) }
-    ensures same { IsSameSite site.old site.new }
-{
-    match input {
-        Input::PutPolicy(id, text) => Reply::Put(site.put_policy(id, text)),
-        Input::DeletePolicy(id) => Reply::Stamped(site.delete_policy(id)),
-        Input::PutEntity(bytes) => Reply::Stamped(put_entity(alloc, scratch, site, bytes)),
-        Input::DeleteEntity(uid) => Reply::Stamped(site.delete_entity(uid)),
-        Input::Take(bytes) => Reply::Taken(take_bytes(alloc, site, bytes)),
-        Input::Authorize(bytes) => Reply::Answered(authorize(alloc, scratch, site, bytes)),
-        Input::GetPolicy(id) => Reply::Found(find_policy(alloc, site, id)),
-        Input::State => Reply::Written(state(site)),
-        Input::Summary => Reply::Written(summary(site)),
-        Input::Delta(bytes) => Reply::Written(delta(alloc, site, bytes)),
-    }
-}
-
-/// Answers inputs in their order, each with its reply.
-///
-/// The store is then the join of the updates that the site had and those that it applied: one for each command that got
-/// a stamp, and those of messages. Each error in an answer is `EntityDoesNotExist` or `ArithBoundsError`.
-///
-/// # Errors
-///
-/// - `NoMemory` (1): the list of replies could not be allocated. The site is then unchanged.
-///
-/// Any other failed allocation is reported in a reply, or only makes a cache absent or unused; the inputs after it are
-/// still answered.
-pub fn run(alloc: Global, site: &mut Site, inputs: &[Input<'_>]) -> Result<Vec<Reply>, NoMemory>
-    ensures steps { IfOk result (λ replies. Run (schema_of site.old) site.old.name (store_in site.old)
-        (map input_of inputs.now) replies.items (store_in site.new)) }
-    ensures store { IfOk result (λ replies. store_in site.new
-        ≡ store_of (updates (store_in site.old) ++ took (schema_of site.old) (map input_of inputs.now) replies.items)) }
-    ensures right { IfOk result (λ replies. ArePermittedReplies replies.items) }
-    ensures same { IsSameSite site.old site.new }
-    ensures err { OnErr result (site.new ≡ site.old) }
-{
-    updates_have_one_store();
-    runs_are_sound();
-    site.schema().is_stated();
-    let mut replies = Vec::with_capacity(alloc, inputs.len())?;
-    let mut scratch = Scratch::new(alloc);
-    for input in inputs {
-        let reply = answer(alloc, &mut scratch, site, input);
-        // The list was allocated with the capacity for all replies.
-        if let Err(_) = replies.push(reply) {
-            unreachable!();
+impl Site {
+    /// Applies the updates of a message (a state or a delta of another site of the schema) in their order.
+    ///
+    /// If the allocation for an update fails, the result is `Short(k)`, and exactly the first `k` updates are applied.
+    /// A failed allocation for a cache only makes the cache absent.
+    ///
+    /// # Errors
+    ///
+    /// The site is then unchanged:
+    ///
+    /// - `Message` (50 to 56): the first error of the bytes as a message of the schema; the message is rejected whole.
+    /// - `NoMemory` (1): an allocation failed while the message was parsed.
+    pub fn take_bytes(&mut self, bytes: &[u8]) -> Result<Taken, SiteFault>
+        ensures takes { TakesMessage (parsed (schema_of self.old)) (store_in self.old) bytes.now result
+            (store_in self.new) }
+        ensures same { IsSameSite self.old self.new }
+    {
+        match updates_of(self.alloc(), self.schema(), bytes) {
+            Ok(updates) => Ok(self.take(updates)),
+            Err(fault) => Err(fault),
         }
     }
-    Ok(replies)
+
+    /// Answers one input, in one step of the site.
+    ///
+    /// `scratch` is memory that is reused from input to input; its content does not matter.
+    pub fn answer(&mut self, scratch: &mut Scratch, input: &Input<'_>) -> Reply
+        ensures step { Step (schema_of self.old) self.old.name (store_in self.old) (input_of input.now) result
+            (store_in self.new) }
+        ensures same { IsSameSite self.old self.new }
+    {
+        let alloc = self.alloc();
+        match input {
+            Input::PutPolicy(id, text) => Reply::Put(put_policy(self, id, text)),
+            Input::DeletePolicy(id) => Reply::Stamped(delete_policy(self, id)),
+            Input::PutEntity(bytes) => Reply::Stamped(put_entity(alloc, scratch, self, bytes)),
+            Input::DeleteEntity(uid) => Reply::Stamped(delete_entity(alloc, scratch, self, uid)),
+            Input::Take(bytes) => Reply::Taken(self.take_bytes(bytes)),
+            Input::Authorize(bytes) => Reply::Answered(authorize(alloc, scratch, self, bytes)),
+            Input::GetPolicy(id) => Reply::Found(find_policy(alloc, self, id)),
+            Input::State => Reply::Written(state(self)),
+            Input::Summary => Reply::Written(summary(self)),
+            Input::Delta(bytes) => Reply::Written(delta(alloc, self, bytes)),
+        }
+    }
+
+    /// Answers inputs in their order, each with its reply.
+    ///
+    /// The store is then the join of the updates that the site had and those that it applied: one for each command that
+    /// got a stamp, and those of messages. Each error in an answer is `EntityDoesNotExist` or `ArithBoundsError`.
+    ///
+    /// # Errors
+    ///
+    /// - `NoMemory` (1): the list of replies could not be allocated. The site is then unchanged.
+    ///
+    /// Any other failed allocation is reported in a reply, or only makes a cache absent or unused; the inputs after it
+    /// are still answered.
+    pub fn run(&mut self, inputs: &[Input<'_>]) -> Result<Vec<Reply>, NoMemory>
+        ensures steps { IfOk result (λ replies. Run (schema_of self.old) self.old.name (store_in self.old)
+            (map input_of inputs.now) replies.items (store_in self.new)) }
+        ensures store { IfOk result (λ replies. store_in self.new ≡ store_of (updates (store_in self.old)
+            ++ took (schema_of self.old) (map input_of inputs.now) replies.items)) }
+        ensures right { IfOk result (λ replies. ArePermittedReplies replies.items) }
+        ensures same { IsSameSite self.old self.new }
+        ensures err { OnErr result (self.new ≡ self.old) }
+    {
+        updates_have_one_store();
+        runs_are_sound();
+        self.schema().is_stated();
+        let alloc = self.alloc();
+        let mut replies = Vec::with_capacity(alloc, inputs.len())?;
+        let mut scratch = Scratch::new(alloc);
+        for input in inputs {
+            let reply = self.answer(&mut scratch, input);
+            // The list was allocated with the capacity for all replies.
+            if let Err(_) = replies.push(reply) {
+                unreachable!();
+            }
+        }
+        Ok(replies)
+    }
 }

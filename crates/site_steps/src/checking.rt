@@ -1,5 +1,6 @@
 //! Those checks of inputs that need only the schema, not the store.
 ghost use Rattle.std.specs.Prelude.{◌≡◌, ◌≢◌, ◌↔◌, ℕ, List, IsTrue, IfOk, IfErr, Some, Ok, Err, string_bytes};
+ghost use Rattle.std.specs.Str.{IsUtf8};
 ghost use Rattle.serde_json.specs.View.{view};
 ghost use Rattle.plain.specs.Words.{IsPath};
 ghost use Rattle.site_store.specs.policy_grammar.Limits.{IsId};
@@ -10,7 +11,7 @@ ghost use Rattle.site_store.specs.entities.Entities.{entity_stated_in};
 ghost use Rattle.site_soundness.specs.validator.Passing.{Passes, IsImpossible};
 ghost use Rattle.plain.specs.AllocationErrors.{OrNoMemory};
 ghost use Rattle.site_steps.specs.declared.fault.SiteFault.TheVariants as SiteFault;
-ghost use Rattle.site_steps.specs.Admitted.{IsEntityUnder, IsNotAdmitted, IsRequestOf};
+ghost use Rattle.site_steps.specs.Admitted.{IsEntityUnder, IsNotAdmitted, IsPolicyId, IsRequestOf};
 ghost use Rattle.site_steps.specs.inner.Recording.{IsDescribed, IsStatedBy, IsNoEntityFault, IsNoRequestFault};
 ghost use Rattle.site_steps.specs.inner.Recording.{IsCheckedPolicy};
 
@@ -28,7 +29,7 @@ use values::{EntityUid, Request};
 // ---- policies
 
 /// Returns whether a policy may have this id: whether the id has 1 to 256 bytes.
-fn is_id(id: &str) -> bool
+pub(crate) fn is_id(id: &str) -> bool
     ensures { IsTrue result ↔ IsId id.now }
 {
     1 <= id.len() && id.len() <= MOST_ID_BYTES
@@ -38,7 +39,8 @@ fn is_id(id: &str) -> bool
 fn is_impossible(alloc: Global, schema: &Schema, policy: &Policy) -> Result<bool, SiteFault>
     ensures passes { IfOk result (λ yes. Passes (schema_view schema.now) policy.now
         × (IsTrue yes ↔ IsImpossible (schema_view schema.now) policy.now)) }
-    ensures refused { IfErr result (λ f. (id text : List ℕ) → IsId id → IsPolicyText text policy.now
+    ensures refused { IfErr result (λ f. (id text : List ℕ) → IsPolicyId id → IsUtf8 text
+        → IsPolicyText text policy.now
         → OrNoMemory SiteFault.NoMemory (IsNotAdmitted (schema_view schema.now) id text) f) }
 {
     match check(alloc, schema, policy) {

@@ -15,6 +15,7 @@ ghost use Rattle.site_store.specs.stamped_store.Store.{KeepsOtherNames};
 ghost use Rattle.site_store.specs.site_meaning.StoreMeaning.{MakesCycle, MakesNoCycle};
 ghost use Rattle.site_soundness.specs.message_format.Summaries.{IsName};
 ghost use Rattle.site_steps.specs.Admitted.{IsPolicyUnder, IsEntityUnder, entity_stated};
+ghost use Rattle.site_steps.specs.Readings.{parsed};
 ghost use Rattle.site_steps.specs.SiteViews.{schema_of, store_in, IsSameSite};
 ghost use Rattle.site_steps.specs.Steps.{PutsPolicy, PutsEntity, Deletes};
 ghost use Rattle.site_steps.specs.inner.Recording.{RecordsOr, PutsUnless, IsNext, put_result};
@@ -308,8 +309,8 @@ impl Site {
     /// - `ClockFull` (62): no stamp is left.
     /// - `NoMemory` (1): an allocation failed; possible at any point.
     pub fn put_entity(&mut self, json: &Value) -> Result<Stamp, SiteFault>
-        ensures puts { PutsEntity (schema_of self.old) self.old.name (store_in self.old) (Some (view json.now)) result
-            (store_in self.new) }
+        ensures puts { PutsEntity (parsed (schema_of self.old)) self.old.name (store_in self.old)
+            (Some (view json.now)) result (store_in self.new) }
         ensures stands { IfOk result (λ stamp. (e : Entity)
             × (entity_stated (schema_of self.old) (Some (view json.now)) ≡ Ok e)
             × (get (store_in self.new) (entity_name e.uid) ≡ Some (issued stamp (Some (canonical_text e))))

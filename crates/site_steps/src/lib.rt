@@ -23,7 +23,6 @@ mod site;
 mod under_schema;
 mod updates;
 
-pub use answering::{answer, run, take_bytes};
 pub use fault::SiteFault;
 pub use input::Input;
 pub use json_words::Scratch;

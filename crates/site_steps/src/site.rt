@@ -9,6 +9,7 @@ ghost use Rattle.site_store.specs.stamped_store.Store.{store_of, updates};
 ghost use Rattle.site_soundness.specs.message_format.Summaries.{summary_text, summary_stated};
 ghost use Rattle.site_soundness.specs.message_format.Messages.{state_text, delta_text, updates_stated};
 ghost use Rattle.site_soundness.specs.Answers.{HasPermittedErrors};
+ghost use Rattle.site_steps.specs.Readings.{parsed};
 ghost use Rattle.site_steps.specs.SiteViews.{schema_of, store_in, IsValidStore};
 ghost use Rattle.site_steps.specs.Steps.{Answers, policy_found, most_count};
 
@@ -72,6 +73,11 @@ impl Site {
             name: SiteName::new(name),
             store: IndexedStore::new(alloc, schema),
         }
+    }
+
+    /// Returns the allocator.
+    pub(crate) fn alloc(&self) -> Global {
+        self.alloc
     }
 
     /// Returns the schema.
@@ -181,7 +187,7 @@ impl Site {
     /// - `Request` (63, with the code of the inner error): the JSON does not describe a request under the schema.
     /// - `NoMemory` (1): an allocation failed; possible at any point.
     pub fn authorize(&self, json: &Value) -> Result<Answer, SiteFault>
-        ensures answers { Answers (schema_of self.now) (store_in self.now) (Some (view json.now)) result }
+        ensures answers { Answers (parsed (schema_of self.now)) (store_in self.now) (Some (view json.now)) result }
         ensures right { IfOk result HasPermittedErrors }
     {
         stored_answers_are_sound();

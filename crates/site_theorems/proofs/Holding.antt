@@ -258,7 +258,7 @@ module _ (law : RunLaws) (schema : StatedSchema) where
     comes : (w : World) (e : Event) (a : EventReply) (v : World) → Within w f → Happens (IsStep schema) sites w e a v
         → Comes w e a v
     comes w e a v kept h =
-        comes_by w e a v kept (numbered sites e.site) (numbered w.stores e.site) (input_of w e.operation) refl refl h.happens
+        comes_by w e a v kept (numbered sites e.site) (numbered w.stores e.site) (input_of w e.operation) refl refl h
 
     grows_by : (w : World) (e : Event) (a : EventReply) (v : World) (o : Option SiteName) (p : Option Store)
         (q : Option Input) → HappensAt (IsStep schema) w e o p q a v → Within w v
@@ -272,7 +272,7 @@ module _ (law : RunLaws) (schema : StatedSchema) where
     within w (e ∷ es) [] h = absurd h
     within w (e ∷ es) (a ∷ rs) h =
         within_both w h.0 f
-        (grows_by w e a h.0 (numbered sites e.site) (numbered w.stores e.site) (input_of w e.operation) h.1.happens)
+        (grows_by w e a h.0 (numbered sites e.site) (numbered w.stores e.site) (input_of w e.operation) h.1)
         (within h.0 es rs h.2)
 
     applies_by : (k : ℕ) (e : Event) (a : EventReply) (d : (e.site ≡ k) ⊎ (e.site ≡ k → ⊥))

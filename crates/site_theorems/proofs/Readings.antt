@@ -1,6 +1,6 @@
 -- Answers and cycles over a store, by two readings of its entities that agree.
-use Rattle.std.proofs.Common.{◌≡◌, ℕ, List, Option, Some, None, Result, Ok, Err}
-use Rattle.std.specs.Prelude.{◌↔◌}
+use Rattle.std.proofs.Common.{◌≡◌, ℕ, List, Option, Some, None, Result, Ok, Err, refl, ap, subst}
+use Rattle.std.specs.Prelude.{◌↔◌, option_and_then}
 use Rattle.serde_json.specs.Data.{Data}
 use Rattle.values.specs.declared.entity_uid.EntityUid.{EntityUid}
 use Rattle.values.specs.declared.request.Request.{Request}
@@ -14,11 +14,12 @@ use Rattle.site.specs.site_steps.stamped_store.Store.{Store, entity_name}
 use Rattle.site.specs.site_steps.stamped_store.Contents.{text_under}
 use Rattle.site.specs.site_steps.site_meaning.StoreMeaning.{IsReadFrom, AreEntities, IsAnswerOver, MakesCycle}
 use Rattle.site.specs.site_steps.site_meaning.StoreMeaning.{MakesNoCycle}
-use Rattle.site.specs.site_steps.Admitted.{entity_stated, IsRequestOf, IsNoRequest}
+use Rattle.site.specs.site_steps.Admitted.{entity_stated, IsRequestOf, IsNoRequest, JsonDescribes, JsonRefused}
+use Rattle.site.specs.site_steps.entity_uids.Uids.{IsUid, IsRead, uid_in}
+use Rattle.site.specs.site_steps.entity_uids.Laws.{OneUid, UidsAreFound}
 use Rattle.site.specs.site_steps.entities.StatedEntities.{DescribesEntity, RefusesEntity}
 use Rattle.site.specs.site_steps.entities.StatedRequests.{DescribesRequest, RefusesRequest}
 use Rattle.site.specs.site_steps.entities.ParsingLaws.{EntitiesAreRead, RequestsAreRead}
-use Rattle.site_theorems.specs.Steps.{JsonDescribes, JsonRefused}
 
 -- ---- entities of a store
 
@@ -86,3 +87,30 @@ pub request_fault : RequestsAreRead → (schema : StatedSchema) (json : Option D
     → IsNoRequest schema json f ↔ JsonRefused (RefusesRequest schema) json f
 request_fault read schema None f = ((λ h. h), (λ h. h))
 request_fault read schema (Some d) f = (read schema d).refuses f
+
+-- ---- uids
+
+-- at most one value is named, or none
+one_read : (P : EntityUid → Type 0) → ((x y : EntityUid) → P x → P y → x ≡ y) → (o p : Option EntityUid) → IsRead P o
+    → IsRead P p → o ≡ p
+one_read P one None None h k = refl
+one_read P one None (Some y) h k = absurd (h y k)
+one_read P one (Some x) None h k = absurd (k x h)
+one_read P one (Some x) (Some y) h k = ap (λ (z : EntityUid). Some z) (one x y h k)
+
+one_described : OneUid → (json : Option Data) (x y : EntityUid) → JsonDescribes IsUid json x → JsonDescribes IsUid json y
+    → x ≡ y
+one_described one None x y h k = absurd h
+one_described one (Some d) x y h k = one d x y h k
+
+uid_read : UidsAreFound → (json : Option Data) → IsRead (JsonDescribes IsUid json) (option_and_then uid_in json)
+uid_read found None = λ uid h. h
+uid_read found (Some d) = found d
+
+pub uid_named : OneUid → UidsAreFound → (json : Option Data) (o : Option EntityUid)
+    → (option_and_then uid_in json ≡ o) ↔ IsRead (JsonDescribes IsUid json) o
+uid_named one found json o = (
+  (λ h. subst (λ (p : Option EntityUid). IsRead (JsonDescribes IsUid json) p) h (uid_read found json)),
+  (λ h. one_read (JsonDescribes IsUid json) (one_described one json) (option_and_then uid_in json) o
+      (uid_read found json) h),
+)

@@ -1,7 +1,9 @@
 -- The store after a run by what bytes state is that of the updates applied.
-use Rattle.std.proofs.Common.{◌≡◌, ◌∙◌, ℕ, List, [], ◌∷◌, Result, Ok, refl, sym, ap, subst}
-use Rattle.std.specs.Prelude.{◌↔◌, ◌++◌, take, Contains}
+use Rattle.std.proofs.Common.{◌≡◌, ◌∙◌, ℕ, List, [], ◌∷◌, Option, Some, Result, Ok, refl, sym, ap, subst}
+use Rattle.std.specs.Prelude.{◌↔◌, ◌++◌, take, option_and_then, Contains}
+use Rattle.serde_json.specs.Data.{Data}
 use Rattle.json_words.specs.Json.{json_of}
+use Rattle.values.specs.declared.entity_uid.EntityUid.{EntityUid}
 use Rattle.values.specs.Names.{name_cmp-IsTotalOrder, name_cmp-IsAntisymmetric}
 use Rattle.site.specs.site_steps.schema.Schemas.{StatedSchema}
 use Rattle.site.specs.site_steps.entity_data.declared.entity.Entity.{Entity}
@@ -15,7 +17,10 @@ use Rattle.site.specs.site_steps.Inputs.{Input}
 use Rattle.site.specs.site_steps.Inputs as input
 use Rattle.site.specs.site_steps.declared.reply.Reply.{Reply}
 use Rattle.site.specs.site_steps.declared.reply.Reply.TheVariants as reply
-use Rattle.site.specs.site_steps.Runs.{Run, took_by, took, update_of_entity, updates_of_message}
+use Rattle.site.specs.site_steps.Admitted.{JsonDescribes}
+use Rattle.site.specs.site_steps.Runs.{Run, took_by, took, update_of_entity, update_of_deletion, updates_of_message}
+use Rattle.site.specs.site_steps.entity_uids.Uids.{IsUid, uid_in}
+use Rattle.site.specs.site_steps.entity_uids.Laws.{OneUid, UidsAreFound}
 use Rattle.site.specs.site_steps.Permitted.{RunsAreSound}
 use Rattle.site.specs.site_steps.entities.ParsingLaws.{EntitiesAreRead}
 use Rattle.site.proofs.of_site_steps.of_stamped_store.Greatests.{entry_order}
@@ -26,13 +31,15 @@ use Rattle.site_theorems.specs.Steps.{IsStep}
 use Rattle.site_theorems.specs.Laws.{StepsAreAsStated}
 use Rattle.site_theorems.specs.Runs.{IsRun, Applies, Applied, LeavesApplied, RunsLeaveApplied, Holds}
 use Rattle.site_theorems.specs.Runs.{EqualUpdatesLeaveEqualStores, RunsHavePermittedErrors}
-use Rattle.site_theorems.proofs.Readings.{entity_value}
+use Rattle.site_theorems.proofs.Readings.{entity_value, uid_named}
 
 -- by the theorems of lower crates
 pub record RunLaws : Type 0 where
   pub steps : StepsAreAsStated
   pub entities : EntitiesAreRead
   pub messages : UpdatesAreRead
+  pub one_uid : OneUid
+  pub uids : UidsAreFound
   pub leave : (schema : StatedSchema) (n : List ℕ) (s : Store) (is : List Input) (rs : List Reply) (t : Store)
       → Run schema n s is rs t → t ≡ store_of (updates s ++ took schema is rs)
 
@@ -44,6 +51,10 @@ module _ (law : RunLaws) (schema : StatedSchema) where
       → updates_stated schema.label bytes ≡ Ok us
   stated_updates bytes us h = ((law.messages schema.label bytes).value us).1 h
 
+  stated_uid : (json : Option Data) (uid : EntityUid) → JsonDescribes IsUid json uid
+      → option_and_then uid_in json ≡ Some uid
+  stated_uid json uid h = (uid_named law.one_uid law.uids json (Some uid)).1 h
+
   -- ---- one input
 
   -- what it applied is what the function gives
@@ -53,7 +64,8 @@ module _ (law : RunLaws) (schema : StatedSchema) where
   only_by (input.PutEntity bytes) (reply.Stamped (Ok stamp)) us h =
       h.2 ∙ ap (λ (x : Result Entity EntityFault). update_of_entity stamp x)
       (sym ((entity_value law.entities schema (json_of bytes) h.0).1 h.1))
-  only_by (input.DeleteEntity uid) (reply.Stamped (Ok stamp)) us h = h
+  only_by (input.DeleteEntity bytes) (reply.Stamped (Ok stamp)) us h =
+      h.2 ∙ ap (λ (x : Option EntityUid). update_of_deletion stamp x) (sym (stated_uid (json_of bytes) h.0 h.1))
   only_by (input.Take bytes) (reply.Taken (Ok (All k))) us h =
       ap (λ (x : Result (List Update) MessageFault). updates_of_message x) (sym (stated_updates bytes us h))
   only_by (input.Take bytes) (reply.Taken (Ok (Short k))) us h =
@@ -72,7 +84,11 @@ module _ (law : RunLaws) (schema : StatedSchema) where
     ap (λ (x : Result Entity EntityFault). update_of_entity stamp x)
         ((entity_value law.entities schema (json_of bytes) h.0).1 h.1),
   )
-  applied_by n s (input.DeleteEntity uid) (reply.Stamped (Ok stamp)) t h = refl
+  applied_by n s (input.DeleteEntity bytes) (reply.Stamped (Ok stamp)) t h = (
+    h.0,
+    h.1,
+    ap (λ (x : Option EntityUid). update_of_deletion stamp x) (stated_uid (json_of bytes) h.0 h.1),
+  )
   applied_by n s (input.Take bytes) (reply.Taken (Ok (All k))) t h =
       subst (λ (us : List Update). DescribesUpdates schema.label bytes us)
       (ap (λ (x : Result (List Update) MessageFault). updates_of_message x)

@@ -1,38 +1,41 @@
 -- The promises of systems of sites, carried over to the steps that bytes state.
-use Rattle.std.proofs.Common.{◌≡◌, ℕ, List, [], ◌∷◌, Option, Some, None, Result, Ok, Err, refl, sym, subst, inl, inr}
-use Rattle.std.specs.Prelude.{◌↔◌, Contains}
+use Rattle.std.proofs.Common.{◌≡◌, List, [], ◌∷◌, Option, Some, None, Result, Ok, Err, refl, sym, subst, inl, inr}
+use Rattle.std.specs.Prelude.{option_and_then, Contains}
 use Rattle.std.proofs.lemmas.List.Elements.{Contains-push_cases}
 use Rattle.plain.proofs.Members.{Contains-here, Contains-none}
 use Rattle.serde_json.specs.Data.{Data}
 use Rattle.json_words.specs.Json.{json_of}
+use Rattle.values.specs.declared.entity_uid.EntityUid.{EntityUid}
 use Rattle.site.specs.site_steps.schema.Schemas.{StatedSchema}
 use Rattle.site.specs.site_steps.entity_data.declared.entity.Entity.{Entity}
 use Rattle.site.specs.site_steps.entities.Canonical.{canonical_text}
 use Rattle.site.specs.site_steps.entities.declared.fault.EntityFault.{EntityFault}
 use Rattle.site.specs.site_steps.stamped_store.declared.entry.Stamp.{Stamp}
 use Rattle.site.specs.site_steps.stamped_store.Store.{Store, Update, issued, entity_name, policy_name}
-use Rattle.site.specs.site_steps.Admitted.{entity_stated}
+use Rattle.site.specs.site_steps.Admitted.{JsonDescribes, entity_stated}
+use Rattle.site.specs.site_steps.entity_uids.Uids.{IsUid, uid_in}
+use Rattle.site.specs.site_steps.entity_uids.Laws.{OneUid, UidsAreFound}
 use Rattle.site.specs.site_steps.Inputs.{Input}
 use Rattle.site.specs.site_steps.Inputs as input
 use Rattle.site.specs.site_steps.declared.reply.Reply.{Reply}
 use Rattle.site.specs.site_steps.declared.reply.Reply.TheVariants as reply
-use Rattle.site.specs.site_steps.Runs.{Step, update_of_entity}
+use Rattle.site.specs.site_steps.Runs.{Step, update_of_entity, update_of_deletion}
 use Rattle.site.specs.declared.event.Operation.{Operation}
 use Rattle.site.specs.declared.event.Operation.TheVariants as operation
 use Rattle.site.specs.declared.event.Event.{Event}
 use Rattle.site.specs.declared.event.EventReply.{EventReply}
 use Rattle.site.specs.Sites.{SiteName, numbered, World, start}
-use Rattle.site.specs.Worlds.{IsStepAt, HappensAt, Happens, Leads, WasIssued, issued_by, input_of}
+use Rattle.site.specs.Worlds.{IsStepAt, HappensAt, Happens, Leads, WasIssued, input_of}
 use Rattle.site.specs.Promises.{KeepsPromises, DescribesBy, IssuesBy, SystemsKeepPromises}
 use Rattle.site.specs.Promises as site
 use Rattle.site.specs.site_steps.entities.StatedEntities.{DescribesEntity}
 use Rattle.site.specs.site_steps.entities.ParsingLaws.{EntitiesAreRead}
 use Rattle.site.specs.site_steps.sync_messages.StatedUpdates.{DescribesUpdates}
 use Rattle.site.specs.site_steps.sync_messages.ParsingLaws.{UpdatesAreRead}
-use Rattle.site_theorems.specs.Steps.{JsonDescribes, IsStep}
+use Rattle.site_theorems.specs.Steps.{IsStep}
 use Rattle.site_theorems.specs.Laws.{StepsAreAsStated}
 use Rattle.site_theorems.specs.Promises.{Issues, WorldsKeepPromises}
-use Rattle.site_theorems.proofs.Readings.{entity_value}
+use Rattle.site_theorems.proofs.Readings.{entity_value, uid_named}
 
 -- ---- systems, by two relations of steps
 
@@ -55,10 +58,7 @@ module _ (S T : SiteName → Store → Input → Reply → Store → Type 0)
 
   pub happens_as : (sites : List SiteName) (w : World) (e : Event) (a : EventReply) (v : World) → Happens S sites w e a v
       → Happens T sites w e a v
-  happens_as sites w e a v h = record {
-    texts = h.texts;
-    happens = event_as w e (numbered sites e.site) (numbered w.stores e.site) (input_of w e.operation) a v h.happens;
-  }
+  happens_as sites w e a v h = event_as w e (numbered sites e.site) (numbered w.stores e.site) (input_of w e.operation) a v h
 
   pub leads_as : (sites : List SiteName) (w : World) (es : List Event) (rs : List EventReply) (v : World)
       → Leads S sites w es rs v → Leads T sites w es rs v
@@ -78,7 +78,10 @@ alone v u same = subst (Contains (v ∷ [])) (sym same) (Contains-here v [])
 abbrev update_at : Stamp → Entity → Update
 update_at stamp e = (entity_name e.uid, issued stamp (Some (canonical_text e)))
 
-module _ (read : EntitiesAreRead) (schema : StatedSchema) where
+abbrev deletion_at : Stamp → EntityUid → Update
+deletion_at stamp uid = (entity_name uid, issued stamp None)
+
+module _ (read : EntitiesAreRead) (one : OneUid) (found : UidsAreFound) (schema : StatedSchema) where
   abbrev Put : Stamp → Option Data → Update → Type 0
   Put stamp json u = (e : Entity) × JsonDescribes (DescribesEntity schema) json e × (u ≡ update_at stamp e)
 
@@ -94,20 +97,36 @@ module _ (read : EntitiesAreRead) (schema : StatedSchema) where
       subst (λ (x : Result Entity EntityFault). Contains (update_of_entity stamp x) u)
       (sym ((entity_value read schema json h.0).1 h.1)) (alone (update_at stamp h.0) u h.2)
 
+  abbrev Deleted : Stamp → Option Data → Update → Type 0
+  Deleted stamp json u = (uid : EntityUid) × JsonDescribes IsUid json uid × (u ≡ deletion_at stamp uid)
+
+  delete_to : (stamp : Stamp) (json : Option Data) (u : Update) (o : Option EntityUid) → option_and_then uid_in json ≡ o
+      → Contains (update_of_deletion stamp o) u → Deleted stamp json u
+  delete_to stamp json u (Some uid) is h =
+      (uid, (uid_named one found json (Some uid)).0 is, sym (only (deletion_at stamp uid) u h))
+  delete_to stamp json u None is h = Contains-none u h
+
+  delete_from : (stamp : Stamp) (json : Option Data) (u : Update) → Deleted stamp json u
+      → Contains (update_of_deletion stamp (option_and_then uid_in json)) u
+  delete_from stamp json u h =
+      subst (λ (o : Option EntityUid). Contains (update_of_deletion stamp o) u)
+      (sym ((uid_named one found json (Some h.0)).1 h.1)) (alone (deletion_at stamp h.0) u h.2)
+
   issued_to : (d : Operation) (r : Reply) (u : Update) → IssuesBy schema d r u → Issues schema d r u
   issued_to (operation.PutPolicy id text) (reply.Put (Ok put)) u h =
       sym (only (policy_name id, issued put.stamp (Some text)) u h)
   issued_to (operation.DeletePolicy id) (reply.Stamped (Ok stamp)) u h = sym (only (policy_name id, issued stamp None) u h)
   issued_to (operation.PutEntity bytes) (reply.Stamped (Ok stamp)) u h =
       put_to stamp (json_of bytes) u (entity_stated schema (json_of bytes)) refl h
-  issued_to (operation.DeleteEntity uid) (reply.Stamped (Ok stamp)) u h = sym (only (entity_name uid, issued stamp None) u h)
+  issued_to (operation.DeleteEntity bytes) (reply.Stamped (Ok stamp)) u h =
+      delete_to stamp (json_of bytes) u (option_and_then uid_in (json_of bytes)) refl h
   issued_to d r u h = Contains-none u h
 
   issued_from : (d : Operation) (r : Reply) (u : Update) → Issues schema d r u → IssuesBy schema d r u
   issued_from (operation.PutPolicy id text) (reply.Put (Ok put)) u h = alone (policy_name id, issued put.stamp (Some text)) u h
   issued_from (operation.DeletePolicy id) (reply.Stamped (Ok stamp)) u h = alone (policy_name id, issued stamp None) u h
   issued_from (operation.PutEntity bytes) (reply.Stamped (Ok stamp)) u h = put_from stamp (json_of bytes) u h
-  issued_from (operation.DeleteEntity uid) (reply.Stamped (Ok stamp)) u h = alone (entity_name uid, issued stamp None) u h
+  issued_from (operation.DeleteEntity bytes) (reply.Stamped (Ok stamp)) u h = delete_from stamp (json_of bytes) u h
   issued_from d r u h = absurd h
 
 module _ (I J : Operation → Reply → Update → Type 0) (f : (d : Operation) (r : Reply) (u : Update) → I d r u → J d r u)
@@ -126,7 +145,8 @@ module _ (I J : Operation → Reply → Update → Type 0) (f : (d : Operation) 
 
 -- ---- the promises
 
-module _ (steps : StepsAreAsStated) (entities : EntitiesAreRead) (updates : UpdatesAreRead) (schema : StatedSchema) where
+module _ (steps : StepsAreAsStated) (entities : EntitiesAreRead) (updates : UpdatesAreRead) (one : OneUid)
+    (found : UidsAreFound) (schema : StatedSchema) where
   step_to : (n : SiteName) (s : Store) (i : Input) (r : Reply) (t : Store) → Step schema n s i r t → IsStep schema n s i r t
   step_to n s i r t h = (steps schema n s i r t).0 h
 
@@ -136,10 +156,10 @@ module _ (steps : StepsAreAsStated) (entities : EntitiesAreRead) (updates : Upda
   module _ (sites : List SiteName) (es : List Event) (rs : List EventReply) (w : World)
       (K : KeepsPromises (Step schema) (DescribesBy schema) (IssuesBy schema) sites es rs w) where
     to : (u : Update) → WasIssued (IssuesBy schema) sites es rs u → WasIssued (Issues schema) sites es rs u
-    to u h = was_as (IssuesBy schema) (Issues schema) (issued_to entities schema) sites es rs u h
+    to u h = was_as (IssuesBy schema) (Issues schema) (issued_to entities one found schema) sites es rs u h
 
     from : (u : Update) → WasIssued (Issues schema) sites es rs u → WasIssued (IssuesBy schema) sites es rs u
-    from u h = was_as (Issues schema) (IssuesBy schema) (issued_from entities schema) sites es rs u h
+    from u h = was_as (Issues schema) (IssuesBy schema) (issued_from entities one found schema) sites es rs u h
 
     promises : KeepsPromises (IsStep schema) (DescribesUpdates schema.label) (Issues schema) sites es rs w
     promises = record {

@@ -3,6 +3,7 @@
 -- definitions cite no function that reads these from JSON, only `json_of`, which parses JSON.
 use Rattle.std.specs.Prelude.{◌≡◌, ℕ, List, Some, None, Ok}
 use Rattle.json_words.specs.Json.{json_of}
+use Rattle.values.specs.declared.entity_uid.EntityUid.{EntityUid}
 use Rattle.site.specs.site_steps.schema.Schemas.{StatedSchema, IsSchemaOf}
 use Rattle.site.specs.site_steps.schema.SchemaEntries.{SchemaEntries}
 use Rattle.site.specs.site_steps.schema.Views.{schema_view}
@@ -14,9 +15,11 @@ use Rattle.site.specs.site_steps.declared.reply.Reply.TheVariants as reply
 use Rattle.site.specs.declared.event.Operation.{Operation}
 use Rattle.site.specs.declared.event.Operation.TheVariants as operation
 use Rattle.site.specs.Promises.{SystemsKeepPromises}
+use Rattle.site.specs.site_steps.Admitted.{JsonDescribes}
+use Rattle.site.specs.site_steps.entity_uids.Uids.{IsUid}
 use Rattle.site.specs.site_steps.entities.StatedEntities.{DescribesEntity}
 use Rattle.site.specs.site_steps.sync_messages.StatedUpdates.{DescribesUpdates}
-use Rattle.site_theorems.specs.Steps.{JsonDescribes, IsStep}
+use Rattle.site_theorems.specs.Steps.{IsStep}
 
 -- `Issues schema d r u` holds if the local command `d` issued the update `u`: the reply `r` to `d` has the stamp of
 -- `u`.
@@ -27,7 +30,8 @@ Issues schema (operation.DeletePolicy id) (reply.Stamped (Ok stamp)) u = u ≡ (
 Issues schema (operation.PutEntity bytes) (reply.Stamped (Ok stamp)) u =
     (e : Entity) × JsonDescribes (DescribesEntity schema) (json_of bytes) e
     × (u ≡ (entity_name e.uid, issued stamp (Some (canonical_text e))))
-Issues schema (operation.DeleteEntity uid) (reply.Stamped (Ok stamp)) u = u ≡ (entity_name uid, issued stamp None)
+Issues schema (operation.DeleteEntity bytes) (reply.Stamped (Ok stamp)) u =
+    (uid : EntityUid) × JsonDescribes IsUid (json_of bytes) uid × (u ≡ (entity_name uid, issued stamp None))
 Issues schema _ _ u = ⊥
 
 -- `WorldsKeepPromises schema` holds if all systems of sites of `schema` keep the promises, with the relations `IsStep`,

@@ -6,6 +6,7 @@
 -- and replies apply none.
 use Rattle.std.specs.Prelude.{◌≡◌, ◌↔◌, ℕ, List, [], ◌∷◌, ◌++◌, take, Some, None, Ok, Contains}
 use Rattle.json_words.specs.Json.{json_of}
+use Rattle.values.specs.declared.entity_uid.EntityUid.{EntityUid}
 use Rattle.site.specs.site_steps.schema.Schemas.{StatedSchema, IsSchemaOf}
 use Rattle.site.specs.site_steps.entity_data.declared.entity.Entity.{Entity}
 use Rattle.site.specs.site_steps.entities.Canonical.{canonical_text}
@@ -16,24 +17,20 @@ use Rattle.site.specs.site_steps.Inputs.{Input}
 use Rattle.site.specs.site_steps.Inputs as input
 use Rattle.site.specs.site_steps.declared.reply.Reply.{Reply}
 use Rattle.site.specs.site_steps.declared.reply.Reply.TheVariants as reply
+use Rattle.site.specs.site_steps.Admitted.{JsonDescribes}
+use Rattle.site.specs.site_steps.Runs.{RunBy}
 use Rattle.site.specs.site_steps.Permitted.{ArePermittedReplies}
+use Rattle.site.specs.site_steps.entity_uids.Uids.{IsUid}
 use Rattle.site.specs.site_steps.entities.StatedEntities.{DescribesEntity}
 use Rattle.site.specs.site_steps.sync_messages.StatedUpdates.{DescribesUpdates}
-use Rattle.site_theorems.specs.Steps.{JsonDescribes, IsStep}
+use Rattle.site_theorems.specs.Steps.{described}
 
 -- ---- runs
 
 -- `IsRun schema n s is rs t` holds if a chain of steps, one for each of the inputs `is` with its reply in `rs`, leads
--- the site of `schema` named `n` from the store `s` to the store `t`. For example, the site `east`, empty at first,
--- puts a text for the policy `a`, with the stamp (1, `east`). It then applies a message with a put of another text for
--- `a`, which has the stamp (3, `west`). Last, the site `east` deletes `a`, with the stamp (4, `east`). These three
--- inputs have three replies and apply three updates; in the store at the end, `a` has a tombstone with the stamp
--- (4, `east`).
+-- the site of `schema` named `n` from the store `s` to the store `t`.
 abbrev pub IsRun : StatedSchema → List ℕ → Store → List Input → List Reply → Store → Type 0
-IsRun schema n s [] [] t = t ≡ s
-IsRun schema n s [] (r ∷ rs) t = ⊥
-IsRun schema n s (i ∷ is) [] t = ⊥
-IsRun schema n s (i ∷ is) (r ∷ rs) t = (m : Store) × IsStep schema n s i r m × IsRun schema n m is rs t
+IsRun schema n s is rs t = RunBy (described schema) n s is rs t
 
 -- ---- the updates that runs apply
 
@@ -46,7 +43,8 @@ Applies schema (input.DeletePolicy id) (reply.Stamped (Ok stamp)) us = us ≡ (p
 Applies schema (input.PutEntity bytes) (reply.Stamped (Ok stamp)) us =
     (e : Entity) × JsonDescribes (DescribesEntity schema) (json_of bytes) e
     × (us ≡ (entity_name e.uid, issued stamp (Some (canonical_text e))) ∷ [])
-Applies schema (input.DeleteEntity uid) (reply.Stamped (Ok stamp)) us = us ≡ (entity_name uid, issued stamp None) ∷ []
+Applies schema (input.DeleteEntity bytes) (reply.Stamped (Ok stamp)) us =
+    (uid : EntityUid) × JsonDescribes IsUid (json_of bytes) uid × (us ≡ (entity_name uid, issued stamp None) ∷ [])
 Applies schema (input.Take bytes) (reply.Taken (Ok (All k))) us = DescribesUpdates schema.label bytes us
 Applies schema (input.Take bytes) (reply.Taken (Ok (Short k))) us =
     (all : List Update) × DescribesUpdates schema.label bytes all × (us ≡ take k all)

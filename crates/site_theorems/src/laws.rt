@@ -7,7 +7,7 @@ ghost use Rattle.site_theorems.specs.MainTheorem.{SitesAreAsStated};
 
 use site::{
     entities_are_read_as_stated, entity_texts_are_read_as_stated, messages_are_read_as_stated,
-    requests_are_read_as_stated, runs_are_sound, runs_leave_what_they_took,
+    names_read_back, requests_are_read_as_stated, runs_are_sound, runs_leave_what_they_took,
     summaries_are_read_as_stated, updates_are_read_as_stated, worlds_keep_promises,
 };
 
@@ -20,6 +20,7 @@ use site::{
 pub fn steps_are_as_stated()
     ensures { StepsAreAsStated }
 {
+    names_read_back();
     entities_are_read_as_stated();
     requests_are_read_as_stated();
     entity_texts_are_read_as_stated();
@@ -42,6 +43,7 @@ pub fn runs_leave_what_was_applied()
     ensures permitted { RunsHavePermittedErrors }
 {
     steps_are_as_stated();
+    names_read_back();
     entities_are_read_as_stated();
     updates_are_read_as_stated();
     runs_leave_what_they_took();
@@ -54,6 +56,7 @@ pub fn sites_hold_what_they_applied()
     ensures { SitesHoldApplied }
 {
     steps_are_as_stated();
+    names_read_back();
     entities_are_read_as_stated();
     updates_are_read_as_stated();
     runs_leave_what_they_took();
@@ -68,6 +71,7 @@ pub fn worlds_keep_promises_as_stated()
 {
     worlds_keep_promises();
     steps_are_as_stated();
+    names_read_back();
     entities_are_read_as_stated();
     updates_are_read_as_stated();
 }

@@ -2,7 +2,7 @@
 use Rattle.std.proofs.Common.{rules, ◌≡◌, ◌<◌, ℕ, List, length, zero, suc, refl, sym, ap, subst, inl, inr, arith}
 use Rattle.std.specs.Prelude.{Option, Some, None, is_some, false}
 use Rattle.http.specs.declared.status.StatusCode.{StatusCode}
-use Rattle.site_calls.specs.Calls.{Call}
+use Rattle.site_calls.specs.site_steps.Inputs.{Input}
 use Rattle.weirbowl.specs.Copies.{copied}
 use Rattle.weirbowl.specs.Embedding.{IsCalled}
 use Rattle.weirbowl.specs.Opening.{IsOpened, IsOpenError, code_of}
@@ -21,12 +21,12 @@ no_site : {A : Type 0} (o : Option A) → is_some o ≡ false → o ≡ None
 no_site (Some x) e = search (rules, e)
 no_site None e = refl
 
-pub called : (was : Option EmbeddedSite) (old e : EmbeddedSite) (call : Call) (status : StatusCode) (r : CallResult)
-    (before after : List ℕ) (is : Option EmbeddedSite) → was ≡ Some old → is ≡ Some e → IsCalled old call status e
+pub called : (was : Option EmbeddedSite) (old e : EmbeddedSite) (i : Input) (status : StatusCode) (r : CallResult)
+    (before after : List ℕ) (is : Option EmbeddedSite) → was ≡ Some old → is ≡ Some e → IsCalled old i status e
     → r ≡ record { status = status; length = length e.body.items } → after ≡ copied e.body.items before
-    → Calls was call r before after is
-called was old e call status r before after is there new calls result copy =
-    subst (λ (o : Option EmbeddedSite). Calls o call r before after is) (sym there) (e, status, new, calls, result, copy)
+    → Calls was i r before after is
+called was old e i status r before after is there new calls result copy =
+    subst (λ (o : Option EmbeddedSite). Calls o i r before after is) (sym there) (e, status, new, calls, result, copy)
 
 pub opened : (was : Option EmbeddedSite) (schema name : List ℕ) (e : EmbeddedSite) (is : Option EmbeddedSite)
     → is_some was ≡ false → is ≡ Some e → IsOpened schema name e → Opens was schema name 0 is

@@ -4,10 +4,10 @@
 use Rattle.std.specs.Prelude.{[]}
 use Rattle.http.specs.declared.status.StatusCode.{StatusCode}
 use Rattle.site_calls.specs.Answers.{Appends}
-use Rattle.site_calls.specs.Calls.{Call, asked}
+use Rattle.site_calls.specs.site_steps.Inputs.{Input}
 use Rattle.weirbowl.specs.declared.embedded.EmbeddedSite.{EmbeddedSite}
 
--- `IsCalled old call status new` holds if the site `old` answers `call` with `status` and becomes `new`, which keeps
--- the body of the reply.
-abbrev pub IsCalled : EmbeddedSite → Call → StatusCode → EmbeddedSite → Type 0
-IsCalled old call status new = Appends old.site (asked call) status [] new.body.items new.site
+-- `IsCalled old i status new` holds if the site `old` answers the input `i` with `status` and becomes `new`, which
+-- keeps the body of the reply.
+abbrev pub IsCalled : EmbeddedSite → Input → StatusCode → EmbeddedSite → Type 0
+IsCalled old i status new = Appends old.site i status [] new.body.items new.site

@@ -5,7 +5,7 @@
 -- status 0.
 use Rattle.std.specs.Prelude.{◌≡◌, ◌⊎◌, ◌<◌, ℕ, Bool, List, Option, Some, None, is_some, length}
 use Rattle.http.specs.declared.status.StatusCode.{StatusCode}
-use Rattle.site_calls.specs.Calls.{Call}
+use Rattle.site_calls.specs.site_steps.Inputs.{Input}
 use Rattle.weirbowl.specs.Copies.{copied}
 use Rattle.weirbowl.specs.Embedding.{IsCalled}
 use Rattle.weirbowl.specs.Opening.{IsOpened, IsOpenError, code_of}
@@ -17,15 +17,15 @@ use Rattle.weirbowl.specs.declared.opening.OpenError.{OpenError}
 abbrev pub not_open : CallResult
 not_open = record { status = 0; length = 0 }
 
--- `Calls old call r before after new` holds if the site `old` in the slot answers `call`, which leaves the site `new`
--- there: `r` is the status and the length of the body. `before` is the caller's memory for the body, and `after` is the
--- same memory with the body copied into it, if it fits (`copied`). If no site is open, nothing happens, and `r` is
--- `not_open`.
-abbrev pub Calls : Option EmbeddedSite → Call → CallResult → List ℕ → List ℕ → Option EmbeddedSite → Type 0
-Calls (Some old) call r before after new =
-    (e : EmbeddedSite) × (status : StatusCode) × (new ≡ Some e) × IsCalled old call status e
+-- `Calls old i r before after new` holds if the site `old` in the slot answers the input `i`, which leaves the site
+-- `new` there: `r` is the status and the length of the body. `before` is the caller's memory for the body, and `after`
+-- is the same memory with the body copied into it, if it fits (`copied`). If no site is open, nothing happens, and `r`
+-- is `not_open`.
+abbrev pub Calls : Option EmbeddedSite → Input → CallResult → List ℕ → List ℕ → Option EmbeddedSite → Type 0
+Calls (Some old) i r before after new =
+    (e : EmbeddedSite) × (status : StatusCode) × (new ≡ Some e) × IsCalled old i status e
     × (r ≡ record { status = status; length = length e.body.items }) × (after ≡ copied e.body.items before)
-Calls None call r before after new = (r ≡ not_open) × (after ≡ before) × (new ≡ None)
+Calls None i r before after new = (r ≡ not_open) × (after ≡ before) × (new ≡ None)
 
 -- `RepeatsBody old r before after new` holds if the body of the last reply is copied again: `r` is the status 200 and
 -- the length of the body, `after` is `before` with the body copied into it, if it fits (`copied`), and the site `new`

@@ -4,7 +4,7 @@ ghost use Rattle.std.specs.Vec.{vec_capacity};
 ghost use Rattle.site_calls.specs.declared.TheConstants.{LINE_ROOM};
 
 use http::StatusCode;
-use site_calls::{Call, Scratch, Site, answer_call};
+use site_calls::{Input, Scratch, Site, reply_to};
 use std::alloc::Global;
 
 /// A site, with the body of its last reply.
@@ -22,20 +22,20 @@ pub struct EmbeddedSite {
 }
 
 impl EmbeddedSite {
-    ghost use Rattle.site_calls.specs.Calls.{call_of};
+    ghost use Rattle.site_calls.specs.site_steps.Inputs.{input_of};
     ghost use Rattle.weirbowl.specs.Embedding.{IsCalled};
 
-    /// Answers a call: makes at most one step of the site, keeps the body of the reply in place of the body of the last
-    /// reply, and returns the status. Out of memory is a reply too (503).
-    pub fn call(&mut self, call: &Call<'_>) -> StatusCode
-        ensures { IsCalled self.old (call_of call.now) result self.new }
+    /// Answers an input in one step of the site, keeps the body of the reply in place of the last one, and returns the
+    /// status. Out of memory is a reply too (503).
+    pub fn call(&mut self, input: &Input<'_>) -> StatusCode
+        ensures { IsCalled self.old (input_of input.now) result self.new }
     {
         self.body.clear();
-        answer_call(
+        reply_to(
             self.alloc,
             &mut self.scratch,
             &mut self.site,
-            call,
+            input,
             &mut self.body,
         )
     }

@@ -3,13 +3,13 @@
 //! Opening returns a number, and closing a boolean. Each other call copies the body of its reply to the beginning of
 //! `out`, if `out` is long enough, and returns the reply's status and the body's length. If no site is open, it does
 //! nothing and returns the status 0.
-ghost use Rattle.site_calls.specs.Calls as call;
+ghost use Rattle.site_calls.specs.site_steps.Inputs as input;
 ghost use Rattle.weirbowl.specs.SlotCalls.{Calls, Opens, Closes, RepeatsBody};
 
 use crate::call_result::CallResult;
 use crate::slot::SiteSlot;
 use crate::slot_calls::{call_in, close_in, open_in, repeat_body};
-use site_calls::Call;
+use site_calls::Input;
 use std::alloc::Global;
 
 /// Opens an empty site in the slot. Returns 0 on success, 3 if a site was open there already, and else the code of the
@@ -54,9 +54,9 @@ pub extern "C" fn weirbowl_authorize(
     request: &[u8],
     out: &mut [u8],
 ) -> CallResult
-    ensures { Calls slot.old.pointer.site (call.Authorize request.now) result out.old out.new slot.new.pointer.site }
+    ensures { Calls slot.old.pointer.site (input.Authorize request.now) result out.old out.new slot.new.pointer.site }
 {
-    call_in(alloc, slot, &Call::Authorize(request), out)
+    call_in(alloc, slot, &Input::Authorize(request), out)
 }
 
 /// Puts the policy with this id and this text.
@@ -68,10 +68,10 @@ pub extern "C" fn weirbowl_put_policy(
     text: &[u8],
     out: &mut [u8],
 ) -> CallResult
-    ensures { Calls slot.old.pointer.site (call.PutPolicy id.now text.now) result out.old out.new
+    ensures { Calls slot.old.pointer.site (input.PutPolicy id.now text.now) result out.old out.new
         slot.new.pointer.site }
 {
-    call_in(alloc, slot, &Call::PutPolicy(id, text), out)
+    call_in(alloc, slot, &Input::PutPolicy(id, text), out)
 }
 
 /// Looks up the policy with this id.
@@ -82,9 +82,9 @@ pub extern "C" fn weirbowl_get_policy(
     id: &[u8],
     out: &mut [u8],
 ) -> CallResult
-    ensures { Calls slot.old.pointer.site (call.GetPolicy id.now) result out.old out.new slot.new.pointer.site }
+    ensures { Calls slot.old.pointer.site (input.GetPolicy id.now) result out.old out.new slot.new.pointer.site }
 {
-    call_in(alloc, slot, &Call::GetPolicy(id), out)
+    call_in(alloc, slot, &Input::GetPolicy(id), out)
 }
 
 /// Deletes the policy with this id.
@@ -95,9 +95,9 @@ pub extern "C" fn weirbowl_delete_policy(
     id: &[u8],
     out: &mut [u8],
 ) -> CallResult
-    ensures { Calls slot.old.pointer.site (call.DeletePolicy id.now) result out.old out.new slot.new.pointer.site }
+    ensures { Calls slot.old.pointer.site (input.DeletePolicy id.now) result out.old out.new slot.new.pointer.site }
 {
-    call_in(alloc, slot, &Call::DeletePolicy(id), out)
+    call_in(alloc, slot, &Input::DeletePolicy(id), out)
 }
 
 /// Puts the entity with this JSON.
@@ -108,9 +108,9 @@ pub extern "C" fn weirbowl_put_entity(
     entity: &[u8],
     out: &mut [u8],
 ) -> CallResult
-    ensures { Calls slot.old.pointer.site (call.PutEntity entity.now) result out.old out.new slot.new.pointer.site }
+    ensures { Calls slot.old.pointer.site (input.PutEntity entity.now) result out.old out.new slot.new.pointer.site }
 {
-    call_in(alloc, slot, &Call::PutEntity(entity), out)
+    call_in(alloc, slot, &Input::PutEntity(entity), out)
 }
 
 /// Deletes the entity with the uid in this JSON.
@@ -121,25 +121,25 @@ pub extern "C" fn weirbowl_delete_entity(
     uid: &[u8],
     out: &mut [u8],
 ) -> CallResult
-    ensures { Calls slot.old.pointer.site (call.DeleteEntity uid.now) result out.old out.new slot.new.pointer.site }
+    ensures { Calls slot.old.pointer.site (input.DeleteEntity uid.now) result out.old out.new slot.new.pointer.site }
 {
-    call_in(alloc, slot, &Call::DeleteEntity(uid), out)
+    call_in(alloc, slot, &Input::DeleteEntity(uid), out)
 }
 
 /// Writes the state, as a message to other sites.
 #[unsafe(no_mangle)]
 pub extern "C" fn weirbowl_state(alloc: Global, slot: &mut SiteSlot, out: &mut [u8]) -> CallResult
-    ensures { Calls slot.old.pointer.site call.State result out.old out.new slot.new.pointer.site }
+    ensures { Calls slot.old.pointer.site input.State result out.old out.new slot.new.pointer.site }
 {
-    call_in(alloc, slot, &Call::State, out)
+    call_in(alloc, slot, &Input::State, out)
 }
 
 /// Writes the summary, as a message to other sites.
 #[unsafe(no_mangle)]
 pub extern "C" fn weirbowl_summary(alloc: Global, slot: &mut SiteSlot, out: &mut [u8]) -> CallResult
-    ensures { Calls slot.old.pointer.site call.Summary result out.old out.new slot.new.pointer.site }
+    ensures { Calls slot.old.pointer.site input.Summary result out.old out.new slot.new.pointer.site }
 {
-    call_in(alloc, slot, &Call::Summary, out)
+    call_in(alloc, slot, &Input::Summary, out)
 }
 
 /// Writes a delta: the entries whose names `summary` lacks or has with a smaller stamp.
@@ -150,9 +150,9 @@ pub extern "C" fn weirbowl_delta(
     summary: &[u8],
     out: &mut [u8],
 ) -> CallResult
-    ensures { Calls slot.old.pointer.site (call.Delta summary.now) result out.old out.new slot.new.pointer.site }
+    ensures { Calls slot.old.pointer.site (input.Delta summary.now) result out.old out.new slot.new.pointer.site }
 {
-    call_in(alloc, slot, &Call::Delta(summary), out)
+    call_in(alloc, slot, &Input::Delta(summary), out)
 }
 
 /// Applies the updates of a message: a state or a delta of another site.
@@ -163,7 +163,7 @@ pub extern "C" fn weirbowl_merge(
     message: &[u8],
     out: &mut [u8],
 ) -> CallResult
-    ensures { Calls slot.old.pointer.site (call.Merge message.now) result out.old out.new slot.new.pointer.site }
+    ensures { Calls slot.old.pointer.site (input.Take message.now) result out.old out.new slot.new.pointer.site }
 {
-    call_in(alloc, slot, &Call::Merge(message), out)
+    call_in(alloc, slot, &Input::Take(message), out)
 }

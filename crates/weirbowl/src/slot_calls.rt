@@ -1,6 +1,6 @@
 //! Calls of the site of a slot.
 ghost use Rattle.std.specs.Prelude.{◌≡◌, length};
-ghost use Rattle.site_calls.specs.Calls.{call_of};
+ghost use Rattle.site_calls.specs.site_steps.Inputs.{input_of};
 ghost use Rattle.weirbowl.specs.Copies.{copied};
 ghost use Rattle.weirbowl.specs.SlotCalls.{Calls, Opens, Closes, RepeatsBody, not_open};
 
@@ -11,7 +11,7 @@ use crate::pointer::SitePointer;
 use crate::raw_box::RawBox;
 use crate::slot::SiteSlot;
 use http::StatusCode;
-use site_calls::Call;
+use site_calls::Input;
 use std::alloc::Global;
 
 /// Returns the result of a call on a slot where no site is open: status 0 and length 0.
@@ -70,20 +70,20 @@ pub(crate) fn close_in(alloc: Global, slot: &mut SiteSlot) -> bool
     true
 }
 
-/// Calls the site in a slot, and copies the body of its reply into `out`, if it fits.
+/// Gives an input to the site in a slot, and copies the body of its reply into `out`, if it fits.
 pub(crate) fn call_in(
     alloc: Global,
     slot: &mut SiteSlot,
-    call: &Call<'_>,
+    input: &Input<'_>,
     out: &mut [u8],
 ) -> CallResult
-    ensures { Calls slot.old.pointer.site (call_of call.now) result out.old out.new slot.new.pointer.site }
+    ensures { Calls slot.old.pointer.site (input_of input.now) result out.old out.new slot.new.pointer.site }
 {
     if !slot.is_open {
         return not_open();
     }
     let mut boxed = slot.pointer.take(alloc);
-    let status = boxed.call(call);
+    let status = boxed.call(input);
     let outcome = report(status, boxed.body(), out);
     slot.pointer = SitePointer::to(RawBox::from_box(boxed));
     outcome

@@ -1,4 +1,4 @@
-use Rattle.http_logs.specs.LogLines.{IsLogLine, unread_line}
+use Rattle.http_service.specs.LogLines.{IsLogLine, unread_line}
 use Rattle.http_service.proofs.UnreadLemmas.{none_logged, none_served}
 use Rattle.http_service.proofs.serving.serve_logged.Goals as goal
 

@@ -6,6 +6,8 @@ returns-clause-leave c = runs_leave (record {
   steps = c.steps_are_as_stated.ensures;
   entities = c.entities_are_read_as_stated.ensures.read;
   messages = c.updates_are_read_as_stated.ensures.read;
+  one_uid = c.names_read_back.ensures.one;
+  uids = c.names_read_back.ensures.found;
   leave = c.runs_leave_what_they_took.ensures;
 })
 
@@ -14,6 +16,8 @@ returns-clause-equal c = runs_equal (record {
   steps = c.steps_are_as_stated.ensures;
   entities = c.entities_are_read_as_stated.ensures.read;
   messages = c.updates_are_read_as_stated.ensures.read;
+  one_uid = c.names_read_back.ensures.one;
+  uids = c.names_read_back.ensures.found;
   leave = c.runs_leave_what_they_took.ensures;
 })
 
@@ -22,5 +26,7 @@ returns-clause-permitted c = runs_harmless (record {
   steps = c.steps_are_as_stated.ensures;
   entities = c.entities_are_read_as_stated.ensures.read;
   messages = c.updates_are_read_as_stated.ensures.read;
+  one_uid = c.names_read_back.ensures.one;
+  uids = c.names_read_back.ensures.found;
   leave = c.runs_leave_what_they_took.ensures;
 }) c.runs_are_sound.ensures

@@ -8,4 +8,6 @@ returns c = steps_agree (record {
   texts = c.entity_texts_are_read_as_stated.ensures;
   summaries = c.summaries_are_read_as_stated.ensures.read;
   messages = c.messages_are_read_as_stated.ensures.read;
+  one_uid = c.names_read_back.ensures.one;
+  uids = c.names_read_back.ensures.found;
 })

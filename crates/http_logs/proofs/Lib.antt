@@ -1,2 +1,0 @@
-pub mod Feeds
-mod PieceLemmas

@@ -1,5 +1,0 @@
-use Rattle.http_logs.proofs.Feeds.{decision_tells}
-use Rattle.http_logs.proofs.laws.decision_lines_name_requests.Goals as goal
-
-pub returns : goal.returns
-returns c = decision_tells

@@ -1,2 +1,0 @@
-pub mod LogLines
-pub mod OneLine
