@@ -29,7 +29,7 @@ pub use laws::{
     messages_are_raised, messages_have_one_outcome, messages_read_back, valid_messages_are_read,
 };
 pub use members::{Lent, write_number, write_text};
-pub use reading::read_message;
+pub use reading::read_message_by;
 pub use stamped_store::laws::updates_have_one_store;
 pub use stamped_store::{Readings, StampedStore};
 pub use summary::Summary;

@@ -194,7 +194,7 @@ fn read_all<P: Drop, E: Drop, B: Bodies<P, E>>(
 ///   1 to 256 bytes (19), or the body is rejected, with the code of the inner error; `BodyOfOtherName` (56), the body
 ///   is of another entity.
 /// - `NoMemory` (1): an allocation failed; possible at any point.
-pub fn read_message<P: Drop, E: Drop, B: Bodies<P, E>>(
+pub fn read_message_by<P: Drop, E: Drop, B: Bodies<P, E>>(
     alloc: Global,
     label: &str,
     bodies: &B,

@@ -17,7 +17,7 @@ pub use sync_messages::{
     MessageFault, SchemaTexts, Summary, TypeFault, Update, canonical_texts_are_read, check,
     entity_texts_are_read_as_stated, json_texts_are_utf8, messages_are_read_as_stated,
     messages_have_one_outcome, messages_read_back, names_read_back, policies_have_one_outcome,
-    read_summary, read_updates, stored_texts_have_one_reading, summaries_are_read_as_stated,
+    read_message, read_summary, stored_texts_have_one_reading, summaries_are_read_as_stated,
     summaries_read_back, updates_are_read_as_stated, valid_messages_are_read, write_delta,
     write_state, write_summary,
 };

@@ -33,7 +33,7 @@ use crate::site::Site;
 use entity_uids::{MOST_POLICY_BYTES, read_uid};
 use json_words::{Scratch, read_json_by};
 use plain::{Items, NoMemory, Text};
-use site_soundness::{MessageFault, Update, read_summary, read_updates};
+use site_soundness::{MessageFault, Update, read_message, read_summary};
 use site_store::{
     Answer, Entity, EntityFault, Policy, ReadFault, Schema, Stamp, updates_have_one_store,
 };
@@ -206,7 +206,7 @@ fn updates_of(
     ensures valid { IfOk result (λ us. AllByRecursion (IsValidUnder (schema_view schema.now)) us.items) }
     ensures refused { IfErr result (IsNoMessageOf (parsed (schema_view schema.now)) bytes.now) }
 {
-    match read_updates(alloc, schema, bytes) {
+    match read_message(alloc, schema, bytes) {
         Ok(updates) => Ok(updates),
         Err(fault) => Err(SiteFault::from(fault)),
     }
@@ -263,7 +263,7 @@ fn summary(site: &Site) -> Result<Items<u8>, SiteFault>
 fn delta(alloc: Global, site: &Site, bytes: &[u8]) -> Result<Items<u8>, SiteFault>
     ensures { WritesDelta (parsed (schema_of site.now)) (store_in site.now) bytes.now result }
 {
-    match read_summary(alloc, site.schema().label(), bytes) {
+    match read_summary(alloc, site.schema(), bytes) {
         Ok(since) => match site.delta(&since) {
             Ok(bytes) => Ok(Items::from_vec(bytes)),
             Err(_) => Err(SiteFault::NoMemory),

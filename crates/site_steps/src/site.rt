@@ -133,7 +133,7 @@ impl Site {
         ensures reads_back { IfOk result
             (λ b. updates_stated (schema_of self.now).label b.items ≡ Ok (updates (store_in self.now))) }
     {
-        write_state(self.alloc, self.store.schema().label(), self.store.store())
+        write_state(self.alloc, self.store.schema(), self.store.store())
     }
 
     /// Returns the summary: the names of the store with their stamps, as a message to other sites of the schema.
@@ -148,7 +148,7 @@ impl Site {
             (λ b. summary_stated (schema_of self.now).label b.items ≡ Ok (summary_of (store_in self.now))) }
     {
         ranges_stay();
-        write_summary(self.alloc, self.store.schema().label(), self.store.store())
+        write_summary(self.alloc, self.store.schema(), self.store.store())
     }
 
     /// Returns a delta: the entries whose names the summary `since` lacks or has with a smaller stamp, as a message.
@@ -164,12 +164,7 @@ impl Site {
             ≡ Ok (updates (delta (store_in self.now) since.now))) }
     {
         ranges_stay();
-        write_delta(
-            self.alloc,
-            self.store.schema().label(),
-            self.store.store(),
-            since,
-        )
+        write_delta(self.alloc, self.store.schema(), self.store.store(), since)
     }
 
     /// Returns the answer to the request that JSON describes, over the policies and entities that are parsed from the

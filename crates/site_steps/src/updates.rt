@@ -99,7 +99,7 @@ impl Site {
     /// `Short(k)`, and exactly the first `k` updates are applied. An update that makes an entity cyclic is applied too.
     /// After the updates, absent caches are rebuilt as [`Site::rebuild`] does.
     ///
-    /// Each update must be valid under the site's schema; `sync_messages::read_updates` returns such updates.
+    /// Each update must be valid under the site's schema; `sync_messages::read_message` returns such updates.
     pub fn take(&mut self, updates: Vec<Update<Policy, Entity>>) -> Taken
         requires { AllByRecursion (IsValidUnder (schema_of self.old)) updates.items }
         ensures takes { TakesUpdates (store_in self.old) (plain_updates updates.items) result (store_in self.new) }

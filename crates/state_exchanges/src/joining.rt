@@ -12,7 +12,7 @@ use plain::NoMemory;
 use schema_decisions::{Policy, Refusal};
 use std::alloc::Global;
 use sync_messages::{
-    Entity, MessageFault, Schema, SchemaTexts, StampedStore, Update, read_updates,
+    Entity, MessageFault, Schema, SchemaTexts, StampedStore, Update, read_message,
     updates_have_one_store, valid_messages_are_read, write_state,
 };
 
@@ -99,7 +99,7 @@ pub fn join_message(
 {
     valid_messages_are_read::<Policy, Entity, SchemaTexts<'static>>();
     let mut store = store;
-    let updates = match read_updates(alloc, schema, bytes) {
+    let updates = match read_message(alloc, schema, bytes) {
         Ok(updates) => updates,
         Err(fault) => return Err(message_refusal(fault)),
     };
@@ -123,5 +123,5 @@ pub fn state_of(
         → IsReadBack (schema_view schema.now) (abstract_store store.now) b.items) }
 {
     valid_messages_are_read::<Policy, Entity, SchemaTexts<'static>>();
-    write_state(alloc, schema.label(), store)
+    write_state(alloc, schema, store)
 }

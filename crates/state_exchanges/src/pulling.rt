@@ -111,7 +111,7 @@ fn fetch_missing_entries<R: Source, W: Sink>(
     ensures reads { result ≢ Err (PullFault.Network NetworkFault.Read) → R.failed reader.new ≡ R.failed reader.old }
     ensures writes { result ≢ Err (PullFault.Network NetworkFault.Write) → W.failed writer.new ≡ W.failed writer.old }
 {
-    match write_summary(alloc, schema.label(), store) {
+    match write_summary(alloc, schema, store) {
         Ok(summary) => ask(alloc, ExchangeCall::Delta, host, &summary, reader, writer),
         Err(_) => Err(PullFault::from(NoMemory)),
     }

@@ -16,10 +16,9 @@ pub use as_stated::{
 pub use laws::{canonical_texts_are_read, states_read_back, stored_texts_have_one_reading};
 pub use message_format::{
     MessageFault, StampedStore, Summary, Update, messages_have_one_outcome, messages_read_back,
-    names_read_back, read_message, summaries_read_back, updates_have_one_store,
-    valid_messages_are_read, write_delta, write_state, write_summary,
+    names_read_back, summaries_read_back, updates_have_one_store, valid_messages_are_read,
 };
-pub use messages::{read_summary, read_updates};
+pub use messages::{read_message, read_summary, write_delta, write_state, write_summary};
 pub use texts::SchemaTexts;
 pub use validator::{
     Entity, Schema, TypeFault, action_type_test_is_exact, bytes_have_one_outcome, check,

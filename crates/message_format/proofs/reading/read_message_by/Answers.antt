@@ -4,7 +4,7 @@ use Rattle.message_format.specs.inner.Reading.{stated_update}
 use Rattle.message_format.specs.Updates.{plain_updates}
 use Rattle.message_format.proofs.Raised.{read_raised}
 use Rattle.message_format.proofs.Taking.{is_message, refused}
-use Rattle.message_format.proofs.reading.read_message.Goals as goal
+use Rattle.message_format.proofs.reading.read_message_by.Goals as goal
 
 pub returns-clause-read : goal.returns-clause-read
 returns-clause-read g c =

@@ -1,6 +1,6 @@
 use Rattle.sync_messages.proofs.MessageLemmas.{message_of, fault_of}
 use Rattle.validator.specs.entities.schema.Views.{schema_view}
-use Rattle.sync_messages.proofs.messages.read_updates.Goals as goal
+use Rattle.sync_messages.proofs.messages.read_message.Goals as goal
 
 pub returns-in-Ok-clause-read : goal.returns-in-Ok-clause-read
 returns-in-Ok-clause-read c =
