@@ -35,10 +35,13 @@ SURFACE = {
         "Site", "Site::run", "Put", "Taken", "SiteFault", "Input", "Reply", "simulate", "Event", "World", "is_site_name",
     ],
     "http_service": [
-        "serve", "StreamFault", "fetch", "FetchFault", "Ask", "Source", "Sink", "Counted", "Fed", "Kept", "answer_line", "error_line",
+        "serve", "StreamFault", "serve_logged", "LoggedFault", "fetch", "FetchFault", "Ask", "Source", "Sink", "Counted", "Fed", "Kept",
+        "answer_line", "error_line",
     ],
     "program": [
-        "line_of", "Line", "LineFault", "decide_texts", "check_texts", "decide_under", "pull_over", "merge_texts", "drill_text", "run",
+        "line_of", "Line", "LineFault", "SiteName", "CheckOptions", "DecideOptions", "LoadOptions", "ServeOptions", "PullOptions",
+        "ExchangeOptions", "MergeOptions", "DrillOptions", "ExplainOptions", "decide_texts", "check_texts", "decide_under", "Refusal",
+        "pull_over", "Pulled", "PullFault", "NetworkFault", "merge_texts", "drill_text", "run",
     ],
 }
 

@@ -3,7 +3,7 @@
 use Rattle.std.proofs.Common.{◌≡◌, ℕ, Option, Result, List, [], ◌∷◌, ◌++◌, refl, sym, ap, ◌∙◌, subst, Ok, Err}
 use Rattle.http.specs.declared.status.StatusCode.{StatusCode}
 use Rattle.http_streams.specs.Serving.{IsAnswered}
-use Rattle.http_streams.specs.declared.serve.StreamFault.{StreamFault}
+use Rattle.http_streams.specs.declared.serve.LoggedFault.{LoggedFault}
 use Rattle.http_streams.proofs.Simulated.{answered}
 use Rattle.site_calls.specs.site_steps.schema.Views.{schema_view}
 use Rattle.site_calls.specs.site_steps.SiteViews.{SiteView, schema_of, store_in, IsSameSite}
@@ -84,7 +84,7 @@ module _ {R W : Type 0} (left : R → Option (List ℕ)) (read_failures : R → 
     (write_fails : W → W → Type 0) where
   -- over a borrowed site
   pub served : RunsTake → (first last : R) (before after : W) (old new : SiteService)
-      (result : Result (Unit {0}) StreamFault)
+      (result : Result (Unit {0}) LoggedFault)
       → IsAnswered answers_over left read_failures reads read_fails holds write_failures write_fails first last before
       after old new result
       → IsServed left read_failures reads read_fails holds write_failures write_fails first last before after

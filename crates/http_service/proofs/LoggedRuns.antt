@@ -2,7 +2,7 @@
 use Rattle.std.proofs.Common.{◌≡◌, ℕ, Option, Result, List, refl, sym, subst}
 use Rattle.http.specs.declared.status.StatusCode.{StatusCode}
 use Rattle.http_streams.specs.Serving.{IsAnswered}
-use Rattle.http_streams.specs.declared.serve.StreamFault.{StreamFault}
+use Rattle.http_streams.specs.declared.serve.LoggedFault.{LoggedFault}
 use Rattle.http_streams.proofs.Simulated.{answered}
 use Rattle.http_service.specs.RequestReplies.{answers_logged, answers_over}
 use Rattle.http_service.specs.Serving.{IsServed}
@@ -20,7 +20,7 @@ module _ {R W : Type 0} (left : R → Option (List ℕ)) (read_failures : R → 
     (read_fails : R → R → Type 0) (holds : W → Option (List ℕ)) (write_failures : W → ℕ)
     (write_fails : W → W → Type 0) where
   pub logged_served : RunsTake → (first last : R) (before after : W) (old new : LoggedService)
-      (result : Result (Unit {0}) StreamFault)
+      (result : Result (Unit {0}) LoggedFault)
       → IsAnswered answers_logged left read_failures reads read_fails holds write_failures write_fails first last before
       after old new result
       → IsServed left read_failures reads read_fails holds write_failures write_fails first last before after

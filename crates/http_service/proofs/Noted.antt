@@ -1,5 +1,5 @@
 -- A request is answered, and its line is put.
-use Rattle.std.proofs.Common.{◌≡◌, ℕ, List, [], ◌++◌, drop, take, length, Ok, Err, refl, sym, ap, ◌∙◌, subst, inl, inr}
+use Rattle.std.proofs.Common.{◌≡◌, ℕ, List, ◌++◌, drop, take, length, Ok, Err, refl, sym, ap, ◌∙◌, subst, inl, inr}
 use Rattle.std.proofs.Common.{IsTrue}
 use Rattle.std.proofs.lemmas.Bool.{false≢true}
 use Rattle.std.proofs.lemmas.List.{drop_at, take_at}
@@ -18,7 +18,7 @@ use Rattle.site_calls.specs.site_steps.declared.reply.Reply.{Reply}
 use Rattle.site_calls.specs.site_steps.declared.reply.Reply.TheVariants as reply
 use Rattle.site_calls.specs.site_steps.schema.Schemas.{StatedSchema}
 use Rattle.site_calls.specs.site_steps.stamped_store.Store.{Store}
-use Rattle.http_service.specs.RequestReplies.{RepliesTo, answers}
+use Rattle.http_service.specs.RequestReplies.{RepliesTo}
 use Rattle.http_service.specs.inner.AppendedAnswers.{AppendsTo, AnswersWithLine, AnswersWithTail, IsUndoneReply}
 
 -- a route stands for what the request asks for

@@ -5,7 +5,8 @@ use Rattle.std.specs.Io.KnownBytes.{Consumes}
 use Rattle.http.specs.declared.status.StatusCode.{StatusCode}
 use Rattle.http_streams.specs.Stream.{Closes, EndsByReply, Exchanges, RepliesInPart, AnswersAllRequests, Serves, StopsWithinReply}
 use Rattle.http_streams.specs.Serving.{EndsAs, IsAnswered}
-use Rattle.http_streams.specs.declared.serve.StreamFault.{StreamFault}
+use Rattle.http_streams.specs.declared.serve.LoggedFault.{LoggedFault}
+use Rattle.http_streams.specs.declared.serve.LoggedFault.TheVariants.{Stream, Log}
 use Rattle.http_streams.specs.declared.serve.StreamFault.TheVariants as fault
 use Rattle.http_streams.proofs.Simulated.{answered}
 use Rattle.site_calls.specs.site_steps.SiteViews.{SiteView}
@@ -98,10 +99,10 @@ asks_stops v w bytes out h =
 module _ {R W : Type 0} (left : R → Option (List ℕ)) (read_failures : R → ℕ) (reads : R → ℕ → List ℕ → R → Type 0)
     (read_fails : R → R → Type 0) (holds : W → Option (List ℕ)) (write_failures : W → ℕ)
     (write_fails : W → W → Type 0) where
-  abbrev Called : R → R → W → W → SiteView → SiteView → Result (Unit {0}) StreamFault → Type 0
+  abbrev Called : R → R → W → W → SiteView → SiteView → Result (Unit {0}) LoggedFault → Type 0
   Called = IsServed left read_failures reads read_fails holds write_failures write_fails
 
-  pub site_answers : (first last : R) (before after : W) (old new : SiteView) (result : Result (Unit {0}) StreamFault)
+  pub site_answers : (first last : R) (before after : W) (old new : SiteView) (result : Result (Unit {0}) LoggedFault)
       → Called first last before after old new result
       → IsAnswered answers left read_failures reads read_fails holds write_failures write_fails first last before after
       old new result
@@ -114,7 +115,7 @@ module _ {R W : Type 0} (left : R → Option (List ℕ)) (read_failures : R → 
       last before after old s result) (sym all.2) all.1
 
   leaves_as : RunsTake → (first last : R) (before after : W) (old new : SiteView) (bytes out : List ℕ)
-      (result : Result (Unit {0}) StreamFault)
+      (result : Result (Unit {0}) LoggedFault)
       → EndsAs answers left read_failures reads read_fails holds write_failures write_fails first last before after old
       new bytes out result
       → LeavesRun old bytes new
@@ -122,13 +123,13 @@ module _ {R W : Type 0} (left : R → Option (List ℕ)) (read_failures : R → 
       rests_run law old new bytes out h.0
   leaves_as law first last before after old new bytes out (Ok done) (inr h, read, written) =
       ends_run law old new bytes out h.0
-  leaves_as law first last before after old new bytes out (Err fault.Read) h = rests_run law old new bytes out h.0
-  leaves_as law first last before after old new bytes out (Err fault.NoMemory) h = rests_run law old new bytes out h.0
-  leaves_as law first last before after old new bytes out (Err fault.Write) h = stops_run law old new bytes out h.0
-  leaves_as law first last before after old new bytes out (Err fault.Log) h = stops_run law old new bytes out h.0
+  leaves_as law first last before after old new bytes out (Err (Stream fault.Read)) h = rests_run law old new bytes out h.0
+  leaves_as law first last before after old new bytes out (Err (Stream fault.NoMemory)) h = rests_run law old new bytes out h.0
+  leaves_as law first last before after old new bytes out (Err (Stream fault.Write)) h = stops_run law old new bytes out h.0
+  leaves_as law first last before after old new bytes out (Err Log) h = stops_run law old new bytes out h.0
 
   pub run_left : RunsTake → (first last : R) (before after : W) (old new : SiteView)
-      (result : Result (Unit {0}) StreamFault) → Called first last before after old new result
+      (result : Result (Unit {0}) LoggedFault) → Called first last before after old new result
       → (bytes : List ℕ) × Consumes (left first) (left last) bytes × LeavesRun old bytes new
   run_left law first last before after old new result h =
       let all = site_answers first last before after old new result h in (
@@ -138,18 +139,18 @@ module _ {R W : Type 0} (left : R → Option (List ℕ)) (read_failures : R → 
       )
 
   asks_as : (first last : R) (before after : W) (v w : Served) (bytes out : List ℕ)
-      (result : Result (Unit {0}) StreamFault)
+      (result : Result (Unit {0}) LoggedFault)
       → EndsAs ContinuesRequest left read_failures reads read_fails holds write_failures write_fails first last before after
       v w bytes out result
       → Asks v bytes w
   asks_as first last before after v w bytes out (Ok done) (inl h, read, written) = asks_rests v w bytes out h.0
   asks_as first last before after v w bytes out (Ok done) (inr h, read, written) = asks_ends v w bytes out h.0
-  asks_as first last before after v w bytes out (Err fault.Read) h = asks_rests v w bytes out h.0
-  asks_as first last before after v w bytes out (Err fault.NoMemory) h = asks_rests v w bytes out h.0
-  asks_as first last before after v w bytes out (Err fault.Write) h = asks_stops v w bytes out h.0
-  asks_as first last before after v w bytes out (Err fault.Log) h = asks_stops v w bytes out h.0
+  asks_as first last before after v w bytes out (Err (Stream fault.Read)) h = asks_rests v w bytes out h.0
+  asks_as first last before after v w bytes out (Err (Stream fault.NoMemory)) h = asks_rests v w bytes out h.0
+  asks_as first last before after v w bytes out (Err (Stream fault.Write)) h = asks_stops v w bytes out h.0
+  asks_as first last before after v w bytes out (Err Log) h = asks_stops v w bytes out h.0
 
-  pub inputs_asked : (first last : R) (before after : W) (old new : SiteView) (result : Result (Unit {0}) StreamFault)
+  pub inputs_asked : (first last : R) (before after : W) (old new : SiteView) (result : Result (Unit {0}) LoggedFault)
       (h : Called first last before after old new result)
       → (count : ℕ) × (rest : List ℕ) × HaveInputs count h.answered.bytes rest h.inputs
   inputs_asked first last before after old new result h =

@@ -4,6 +4,7 @@ use Rattle.std.proofs.KnownBytes.{Appends-nil, Consumes-nil}
 use Rattle.http.specs.declared.status.StatusCode.{StatusCode}
 use Rattle.http_streams.proofs.OneRequest.{nothing_unfinished}
 use Rattle.http_streams.specs.Logs.{IsLogged, LineRelation}
+use Rattle.http_streams.specs.declared.serve.LoggedFault.TheVariants.{Stream}
 use Rattle.http_streams.specs.declared.serve.StreamFault.TheVariants as fault
 use Rattle.site_calls.specs.site_steps.SiteViews.{SiteView, schema_of, store_in}
 use Rattle.http_service.specs.Serving.{IsServed}
@@ -14,7 +15,7 @@ module _ {R W : Type 0} (left : R → Option (List ℕ)) (read_failures : R → 
     (write_fails : W → W → Type 0) where
   pub none_served : RunsTake → (reader : R) (writer : W) (site : SiteView)
       → IsServed left read_failures reads read_fails holds write_failures write_fails reader reader writer writer site site
-      (Err fault.NoMemory)
+      (Err (Stream fault.NoMemory))
   none_served law reader writer site = record {
     inputs = [];
     replies = [];
@@ -34,7 +35,7 @@ module _ {R W L : Type 0} (lines : LineRelation) (refusal : StatusCode → List 
     (log_failures : L → ℕ) (log_fails : L → L → Type 0) (left : R → Option (List ℕ)) (holds : W → Option (List ℕ)) where
   pub none_logged : (reader : R) (writer : W) (log : L)
       → IsLogged lines refusal logged log_failures log_fails left holds reader reader writer writer log log
-      (Err fault.NoMemory)
+      (Err (Stream fault.NoMemory))
   none_logged reader writer log = record {
     bytes = [];
     out = [];

@@ -4,7 +4,7 @@
 use Rattle.std.specs.Prelude.{◌≡◌, ℕ, List, [], ◌∷◌, ◌++◌, Option, Result, Ok, Err}
 use Rattle.http.specs.declared.status.StatusCode.{StatusCode}
 use Rattle.http_streams.specs.Serving.{IsAnswered}
-use Rattle.http_streams.specs.declared.serve.StreamFault.{StreamFault}
+use Rattle.http_streams.specs.declared.serve.LoggedFault.{LoggedFault}
 use Rattle.site_calls.specs.site_steps.stamped_store.Store.{store_of, updates}
 use Rattle.site_calls.specs.site_steps.SiteViews.{SiteView, schema_of, store_in, IsSameSite}
 use Rattle.site_calls.specs.site_steps.Runs.{Step, Run, took}
@@ -56,7 +56,7 @@ module _ {R W : Type 0} (left : R → Option (List ℕ)) (read_failures : R → 
   -- put of the first request's body under `a`, and the site's reply to it has a stamp. The call writes the HTTP reply
   -- 200 with the stamp, then the HTTP reply 404. The new store is the join of this put and the updates that the site
   -- had.
-  pub record IsServed (first last : R) (before after : W) (old new : SiteView) (result : Result (Unit {0}) StreamFault)
+  pub record IsServed (first last : R) (before after : W) (old new : SiteView) (result : Result (Unit {0}) LoggedFault)
       : Type 0 where
     pub inputs : List Input
     pub replies : List Reply

@@ -26,7 +26,7 @@ ghost use Rattle.http_service.specs.Streams.{HaveInputs, LeavesRun};
 
 use crate::site_service::ViewedSite;
 use http_streams::laws::{begins_answer, one_answer};
-use http_streams::serve::StreamFault;
+use http_streams::serve::LoggedFault;
 use http_streams::{Sink, Source};
 use site_calls::{inputs_have_one_outcome, runs_are_sound, runs_leave_what_they_took};
 
@@ -51,14 +51,14 @@ pub fn streams_leave_runs()
 /// - `asked`: the inputs of the run are those that the first requests in the bytes read ask for.
 /// - `run`: the site's store is the join of the updates that the site had and those that the run applied.
 pub fn served_streams_are_answered<R: Source, W: Sink>()
-    ensures answered { (first last : R) (before after : W) (old new : SiteView) (result : Result (Unit {0}) StreamFault)
+    ensures answered { (first last : R) (before after : W) (old new : SiteView) (result : Result (Unit {0}) LoggedFault)
         → IsServed R.left R.failed R.reads R.fails W.holds W.failed W.fails first last before after old new result
         → IsAnswered answers R.left R.failed R.reads R.fails W.holds W.failed W.fails first last before after old new
         result }
-    ensures asked { (first last : R) (before after : W) (old new : SiteView) (result : Result (Unit {0}) StreamFault)
+    ensures asked { (first last : R) (before after : W) (old new : SiteView) (result : Result (Unit {0}) LoggedFault)
         (h : IsServed R.left R.failed R.reads R.fails W.holds W.failed W.fails first last before after old new result)
         → (count : ℕ) × (rest : List ℕ) × HaveInputs count h.answered.bytes rest h.inputs }
-    ensures run { (first last : R) (before after : W) (old new : SiteView) (result : Result (Unit {0}) StreamFault)
+    ensures run { (first last : R) (before after : W) (old new : SiteView) (result : Result (Unit {0}) LoggedFault)
         → IsServed R.left R.failed R.reads R.fails W.holds W.failed W.fails first last before after old new result
         → (bytes : List ℕ) × Consumes (R.left first) (R.left last) bytes × LeavesRun old bytes new }
 {

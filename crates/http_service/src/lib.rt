@@ -17,7 +17,7 @@ mod serving;
 mod site_service;
 
 pub use http_streams::fetch::{FetchFault, fetch};
-pub use http_streams::serve::StreamFault;
+pub use http_streams::serve::{LoggedFault, StreamFault};
 pub use http_streams::{
     Ask, Counted, Fed, Kept, Plan, Sink, Source, is_host, is_method, is_target,
 };

@@ -1,14 +1,15 @@
 //! Streams of requests to a site.
-ghost use Rattle.std.specs.Prelude.{◌≡◌, ◌≢◌, ◌≤◌, Err};
+ghost use Rattle.std.specs.Prelude.{◌≡◌, ◌≤◌};
 ghost use Rattle.std.specs.Vec.{vec_capacity};
 ghost use Rattle.http_service.specs.LogLines.{IsLogLine, unread_line};
 ghost use Rattle.http_streams.specs.Logs.{IsLogged};
+ghost use Rattle.http_streams.specs.Serving.{as_logged};
 ghost use Rattle.http_service.specs.Serving.{IsServed};
 
 use crate::MOST_UNREAD_LINE;
 use crate::site_service::{LoggedService, SiteService};
 use http_streams::serve::{
-    StreamFault, serve as serve_stream, serve_logged as serve_stream_logged,
+    LoggedFault, StreamFault, serve as serve_stream, serve_logged as serve_stream_logged,
 };
 use http_streams::{Sink, Source};
 use json_words::Scratch;
@@ -24,8 +25,7 @@ fn serve_borrowed<R: Source, W: Sink>(
 ) -> Result<(), StreamFault>
     ensures same_reference { service.new.site.ghost_name ≡ service.old.site.ghost_name }
     ensures served { IsServed R.left R.failed R.reads R.fails W.holds W.failed W.fails reader.old reader.new writer.old
-        writer.new service.old.site.now service.new.site.now result }
-    ensures unlogged { result ≢ Err StreamFault.Log }
+        writer.new service.old.site.now service.new.site.now (as_logged result) }
 {
     runs_leave_what_they_took();
     serve_stream(alloc, service, reader, writer)
@@ -51,10 +51,8 @@ pub fn serve<R: Source, W: Sink>(
     reader: &mut R,
     writer: &mut W,
 ) -> Result<(), StreamFault>
-    ensures served { IsServed R.left R.failed R.reads R.fails W.holds W.failed W.fails reader.old reader.new writer.old
-        writer.new site.old site.new result }
-    // Without a log no write of a line can fail.
-    ensures unlogged { result ≢ Err StreamFault.Log }
+    ensures { IsServed R.left R.failed R.reads R.fails W.holds W.failed W.fails reader.old reader.new writer.old
+        writer.new site.old site.new (as_logged result) }
 {
     let mut scratch = Scratch::new(alloc);
     let mut service = SiteService {
@@ -73,7 +71,7 @@ fn serve_borrowed_logged<R: Source, W: Sink, L: Sink>(
     writer: &mut W,
     log: &mut L,
     line: &mut Vec<u8>,
-) -> Result<(), StreamFault>
+) -> Result<(), LoggedFault>
     requires { MOST_UNREAD_LINE ≤ vec_capacity line.old }
     ensures same_reference { logged.new.service.site.ghost_name ≡ logged.old.service.site.ghost_name }
     ensures served { IsServed R.left R.failed R.reads R.fails W.holds W.failed W.fails reader.old reader.new writer.old
@@ -90,17 +88,16 @@ fn serve_borrowed_logged<R: Source, W: Sink, L: Sink>(
 ///
 /// # Errors
 ///
-/// Those of [`serve`] and, checked before `Write`:
-///
-/// - [`StreamFault::Log`] (76): the line of a reply was not written whole. Nothing of that reply was sent; a change
-///   that its request made remains.
+/// - [`LoggedFault::Stream`]: an error of [`serve`].
+/// - [`LoggedFault::Log`] (76), checked before `Write`: the line of a reply was not written whole. Nothing of that
+///   reply was sent; a change that its request made remains.
 pub fn serve_logged<R: Source, W: Sink, L: Sink>(
     alloc: Global,
     site: &mut Site,
     reader: &mut R,
     writer: &mut W,
     log: &mut L,
-) -> Result<(), StreamFault>
+) -> Result<(), LoggedFault>
     ensures served { IsServed R.left R.failed R.reads R.fails W.holds W.failed W.fails reader.old reader.new writer.old
         writer.new site.old site.new result }
     ensures logged { IsLogged IsLogLine unread_line L.holds L.failed L.fails R.left W.holds reader.old reader.new
@@ -108,7 +105,7 @@ pub fn serve_logged<R: Source, W: Sink, L: Sink>(
 {
     runs_leave_what_they_took();
     let Ok(mut line) = Vec::with_capacity(alloc, MOST_UNREAD_LINE) else {
-        return Err(StreamFault::NoMemory);
+        return Err(LoggedFault::Stream(StreamFault::NoMemory));
     };
     let mut kept = Scratch::new(alloc);
     let mut logged = LoggedService {

@@ -1,25 +1,23 @@
 -- Each line that a log gets follows the one before.
-use Rattle.std.proofs.Common.{◌≡◌, ◌<◌, ℕ, zero, suc, Bool, List, [], ◌∷◌, ◌++◌, Option, length, drop, refl, sym, ap, ◌∙◌, subst, inl, inr}
-use Rattle.std.proofs.Common.{append_assoc, append-nil, arith, true, Result, Ok, Err, ◌≢◌}
-use Rattle.http_streams.specs.Devices.{HasFailed}
-use Rattle.http_streams.specs.declared.serve.StreamFault.{StreamFault}
-use Rattle.http_streams.specs.declared.serve.StreamFault.TheVariants as fault
+use Rattle.std.proofs.Common.{◌≡◌, ◌<◌, ℕ, Bool, List, [], ◌∷◌, ◌++◌, Option, length, refl, sym, ap, ◌∙◌, subst, inl, inr}
+use Rattle.std.proofs.Common.{append_assoc, append-nil, arith, true, Result, Ok, Err}
+use Rattle.http_streams.specs.declared.serve.LoggedFault.{LoggedFault}
 use Rattle.std.specs.Prelude.{codes, decimal}
 use Rattle.std.specs.Io.KnownBytes.{Appends}
 use Rattle.std.proofs.KnownBytes.{Appends-nil}
 use Rattle.http_streams.specs.ReplyText.{ending, error_line, length_lines, phrase, reply_text, status_line}
 use Rattle.http_streams.specs.Request.{IsRefused}
 use Rattle.http.specs.declared.status.StatusCode.{StatusCode}
-use Rattle.http_streams.specs.Stream.{Exchanges, RepliesInPart, Refuses, Serves, Answering}
-use Rattle.http_streams.specs.Logs.{LineRelation, IsFront, notes, cuts, AreNoted, IsLastNoted, HasLogFailed, IsLogged}
+use Rattle.http_streams.specs.Stream.{Exchanges, RepliesInPart, Serves, Answering}
+use Rattle.http_streams.specs.Logs.{LineRelation, IsFront, notes, cuts, AreNoted, IsLastNoted}
 use Rattle.http_streams.specs.inner.Sending.{IsSentInPart, fault_of}
 use Rattle.http_streams.specs.declared.serve.Broken.{Broken}
 use Rattle.http_streams.specs.declared.serve.Broken.TheVariants.{Log, Write}
-use Rattle.http_streams.proofs.StreamLemmas.{Serves-then, Serves-none, Serves-append}
+use Rattle.http_streams.proofs.StreamLemmas.{Serves-then, Serves-none}
 
 module _ {L : Type 0} (lines : LineRelation) (refusal : StatusCode → List ℕ) (logged : L → Option (List ℕ)) where
   -- the last reply stands at the front
-  pub noted_now : (result : Result (Unit {0}) StreamFault) (old new : L) (bytes out : List ℕ)
+  pub noted_now : (result : Result (Unit {0}) LoggedFault) (old new : L) (bytes out : List ℕ)
       → IsLastNoted lines refusal logged result old bytes out new → AreNoted lines refusal logged result old bytes out new
   noted_now result old new bytes out x = record {
     count = 0;
@@ -33,7 +31,7 @@ module _ {L : Type 0} (lines : LineRelation) (refusal : StatusCode → List ℕ)
   }
 
   -- some requests, and then more
-  pub noted_after : (result : Result (Unit {0}) StreamFault) (n : ℕ) (old mid new : L) (bytes rest out more : List ℕ)
+  pub noted_after : (result : Result (Unit {0}) LoggedFault) (n : ℕ) (old mid new : L) (bytes rest out more : List ℕ)
       → Serves (notes lines logged) n old bytes rest out mid → AreNoted lines refusal logged result mid rest more new
       → AreNoted lines refusal logged result old bytes (out ++ more) new
   noted_after result n old mid new bytes rest out more x e =
@@ -50,7 +48,7 @@ module _ {L : Type 0} (lines : LineRelation) (refusal : StatusCode → List ℕ)
       }
 
   -- some requests, and nothing behind them
-  pub noted_so_far : (result : Result (Unit {0}) StreamFault) (n : ℕ) (old new : L) (bytes rest out : List ℕ)
+  pub noted_so_far : (result : Result (Unit {0}) LoggedFault) (n : ℕ) (old new : L) (bytes rest out : List ℕ)
       → Serves (notes lines logged) n old bytes rest out new → IsLastNoted lines refusal logged result new rest [] new
       → AreNoted lines refusal logged result old bytes out new
   noted_so_far result n old new bytes rest out x none = record {
@@ -75,7 +73,7 @@ module _ {L : Type 0} (lines : LineRelation) (refusal : StatusCode → List ℕ)
   refusal_noted old new bytes status refused x = inr (inr (status, refused, refl, x))
 
   -- the same fact at equal bytes
-  pub last_at : (result : Result (Unit {0}) StreamFault) (old new : L) {bytes same : List ℕ} (out : List ℕ) → bytes ≡ same
+  pub last_at : (result : Result (Unit {0}) LoggedFault) (old new : L) {bytes same : List ℕ} (out : List ℕ) → bytes ≡ same
       → IsLastNoted lines refusal logged result old bytes out new → IsLastNoted lines refusal logged result old same out new
   last_at result old new out e x = subst (λ (t : List ℕ). IsLastNoted lines refusal logged result old t out new) e x
 
@@ -132,19 +130,3 @@ module _ {S L W : Type 0} (answers : Answering S) (lines : LineRelation) (refusa
     (x.1.1, x.1.2, inr (status, refused, sym x.1.3, refl)),
     (x.1.1, x.1.2, inr (status, refused, sym x.1.3, x.0)),
   )
-
--- ---- a log that never fails
-
-at_zero : HasFailed 0 0 → ⊥
-at_zero (inl less) = omega (arith, less)
-at_zero (inr most) = omega (arith, most)
-
-module _ {R W L : Type 0} (lines : LineRelation) (refusal : StatusCode → List ℕ) (logged : L → Option (List ℕ)) (log_fails : L → L → Type 0)
-    (left : R → Option (List ℕ)) (holds : W → Option (List ℕ)) where
-  -- a log whose count of failures stays 0 is not what ended a stream
-  pub never_log : (first last : R) (before after : W) (old new : L) (result : Result (Unit {0}) StreamFault)
-      → IsLogged lines refusal logged (λ _. 0) log_fails left holds first last before after old new result
-      → result ≢ Err fault.Log
-  never_log first last before after old new result is e =
-      let failed = subst (HasLogFailed lines refusal logged (λ _. 0) log_fails left holds old new) e is.failed in
-      at_zero failed.told

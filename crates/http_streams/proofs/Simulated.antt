@@ -4,7 +4,8 @@ use Rattle.std.proofs.Common.{inl, inr}
 use Rattle.http.specs.declared.status.StatusCode.{StatusCode}
 use Rattle.http_streams.specs.Stream.{Answering, Closes, EndsByReply, Exchanges, RepliesInPart, RepliesPromptly, AnswersAllRequests, Serves, StopsWithinReply}
 use Rattle.http_streams.specs.Serving.{EndsAs, IsAnswered}
-use Rattle.http_streams.specs.declared.serve.StreamFault.{StreamFault}
+use Rattle.http_streams.specs.declared.serve.LoggedFault.{LoggedFault}
+use Rattle.http_streams.specs.declared.serve.LoggedFault.TheVariants.{Stream, Log}
 use Rattle.http_streams.specs.declared.serve.StreamFault.TheVariants as fault
 
 module _ {S T : Type 0} (says : Answering S) (tells : Answering T) (Meets : S → T → Type 0)
@@ -112,33 +113,33 @@ module _ {S T : Type 0} (says : Answering S) (tells : Answering T) (Meets : S �
           joined = h.joined;
         }
 
-    abbrev Says : R → R → W → W → S → S → List ℕ → List ℕ → Result (Unit {0}) StreamFault → Type 0
+    abbrev Says : R → R → W → W → S → S → List ℕ → List ℕ → Result (Unit {0}) LoggedFault → Type 0
     Says = EndsAs says left read_failures reads read_fails holds write_failures write_fails
 
-    abbrev Tells : R → R → W → W → T → T → List ℕ → List ℕ → Result (Unit {0}) StreamFault → Type 0
+    abbrev Tells : R → R → W → W → T → T → List ℕ → List ℕ → Result (Unit {0}) LoggedFault → Type 0
     Tells = EndsAs tells left read_failures reads read_fails holds write_failures write_fails
 
     ends_as : (first last : R) (before after : W) (a b : S) (x : T) (bytes out : List ℕ)
-        (result : Result (Unit {0}) StreamFault) → Meets a x → Says first last before after a b bytes out result
+        (result : Result (Unit {0}) LoggedFault) → Meets a x → Says first last before after a b bytes out result
         → (y : T) × Tells first last before after x y bytes out result × Meets b y
     ends_as first last before after a b x bytes out (Ok done) meets (inl h, read, written) =
         let all = rests a b x bytes out meets h.0 in (all.0, (inl (all.1, h.1, h.2), read, written), all.2)
     ends_as first last before after a b x bytes out (Ok done) meets (inr h, read, written) =
         let all = ends a b x bytes out meets h.0 in
         (all.0, (inr (all.1, keeps_up a x first last bytes out meets h.1), read, written), all.2)
-    ends_as first last before after a b x bytes out (Err fault.Read) meets h =
+    ends_as first last before after a b x bytes out (Err (Stream fault.Read)) meets h =
         let all = rests a b x bytes out meets h.0 in (all.0, (all.1, h.1, h.2), all.2)
-    ends_as first last before after a b x bytes out (Err fault.NoMemory) meets h =
+    ends_as first last before after a b x bytes out (Err (Stream fault.NoMemory)) meets h =
         let all = rests a b x bytes out meets h.0 in (all.0, (all.1, h.1, h.2), all.2)
-    ends_as first last before after a b x bytes out (Err fault.Write) meets h =
+    ends_as first last before after a b x bytes out (Err (Stream fault.Write)) meets h =
         let all = stops a b x bytes out meets h.0 in
         (all.0, (all.1, keeps_up a x first last bytes out meets h.1, h.2, h.3), all.2)
-    ends_as first last before after a b x bytes out (Err fault.Log) meets h =
+    ends_as first last before after a b x bytes out (Err Log) meets h =
         let all = stops a b x bytes out meets h.0 in
         (all.0, (all.1, keeps_up a x first last bytes out meets h.1, h.2, h.3), all.2)
 
     -- the same was read and written, and it ended the same way
-    pub answered : (first last : R) (before after : W) (a b : S) (x : T) (result : Result (Unit {0}) StreamFault)
+    pub answered : (first last : R) (before after : W) (a b : S) (x : T) (result : Result (Unit {0}) LoggedFault)
         → Meets a x
         → IsAnswered says left read_failures reads read_fails holds write_failures write_fails first last before after a b
         result

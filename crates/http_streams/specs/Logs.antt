@@ -8,7 +8,8 @@ use Rattle.http_streams.specs.Devices.{FailsAtLast}
 use Rattle.http_streams.specs.ReplyText.{error_line, reply_text}
 use Rattle.http_streams.specs.Request.{IsRefused}
 use Rattle.http_streams.specs.Stream.{Answering, Exchanges, Serves}
-use Rattle.http_streams.specs.declared.serve.StreamFault.{StreamFault}
+use Rattle.http_streams.specs.declared.serve.LoggedFault.{LoggedFault}
+use Rattle.http_streams.specs.declared.serve.LoggedFault.TheVariants.{Stream, Log}
 use Rattle.http_streams.specs.declared.serve.StreamFault.TheVariants as fault
 use Rattle.http.specs.declared.status.StatusCode.{StatusCode}
 
@@ -71,17 +72,17 @@ module _ {L : Type 0} (lines : LineRelation) (refusal : StatusCode → List ℕ)
   -- - Write: the line of the reply was written, and a proper prefix of the reply was sent.
   -- - Log: a proper prefix of the line was written, and nothing of the reply was sent.
   -- - Read, NoMemory: there is no further reply.
-  abbrev pub IsLastNoted : Result (Unit {0}) StreamFault → L → List ℕ → List ℕ → L → Type 0
+  abbrev pub IsLastNoted : Result (Unit {0}) LoggedFault → L → List ℕ → List ℕ → L → Type 0
   IsLastNoted (Ok done) old bytes out new = ((out ≡ []) × (new ≡ old)) ⊎ IsNoted old bytes out new
-  IsLastNoted (Err fault.Write) old bytes out new =
+  IsLastNoted (Err (Stream fault.Write)) old bytes out new =
       (unsent : List ℕ) × (0 < length unsent) × IsNoted old bytes (out ++ unsent) new
-  IsLastNoted (Err fault.Log) old bytes out new = (out ≡ []) × IsLineCut old bytes new
-  IsLastNoted (Err fault.Read) old bytes out new = (out ≡ []) × (new ≡ old)
-  IsLastNoted (Err fault.NoMemory) old bytes out new = (out ≡ []) × (new ≡ old)
+  IsLastNoted (Err Log) old bytes out new = (out ≡ []) × IsLineCut old bytes new
+  IsLastNoted (Err (Stream fault.Read)) old bytes out new = (out ≡ []) × (new ≡ old)
+  IsLastNoted (Err (Stream fault.NoMemory)) old bytes out new = (out ≡ []) × (new ≡ old)
 
   -- `AreNoted result old bytes out new` holds if `bytes` begin with requests, `out` are their replies, and the log got
   -- the line of each reply, in this order. The last reply ended as `result` says (`IsLastNoted`).
-  pub record AreNoted (result : Result (Unit {0}) StreamFault) (old : L) (bytes out : List ℕ) (new : L) : Type 0 where
+  pub record AreNoted (result : Result (Unit {0}) LoggedFault) (old : L) (bytes out : List ℕ) (new : L) : Type 0 where
     pub count : ℕ
     pub mid : L
     pub rest : List ℕ
@@ -97,17 +98,15 @@ module _ {R W L : Type 0} (lines : LineRelation) (refusal : StatusCode → List 
     (log_failures : L → ℕ) (log_fails : L → L → Type 0) (left : R → Option (List ℕ)) (holds : W → Option (List ℕ)) where
   -- `HasLogFailed old new result` holds if `result` is the error `Log` and the log failed at its last call, or `result`
   -- is not this error and the log did not fail.
-  abbrev pub HasLogFailed : L → L → Result (Unit {0}) StreamFault → Type 0
+  abbrev pub HasLogFailed : L → L → Result (Unit {0}) LoggedFault → Type 0
   HasLogFailed old new (Ok done) = log_failures new ≡ log_failures old
-  HasLogFailed old new (Err fault.Read) = log_failures new ≡ log_failures old
-  HasLogFailed old new (Err fault.Write) = log_failures new ≡ log_failures old
-  HasLogFailed old new (Err fault.NoMemory) = log_failures new ≡ log_failures old
-  HasLogFailed old new (Err fault.Log) = FailsAtLast log_failures log_fails old new
+  HasLogFailed old new (Err (Stream why)) = log_failures new ≡ log_failures old
+  HasLogFailed old new (Err Log) = FailsAtLast log_failures log_fails old new
 
   -- `IsLogged first last before after old new result` holds if one call led from the reader `first`, the writer
   -- `before` and the log `old` to `last`, `after` and `new`. The call read requests and wrote their replies, the log
   -- got the line of each, and the call ended as `result` says.
-  pub record IsLogged (first last : R) (before after : W) (old new : L) (result : Result (Unit {0}) StreamFault)
+  pub record IsLogged (first last : R) (before after : W) (old new : L) (result : Result (Unit {0}) LoggedFault)
       : Type 0 where
     pub bytes : List ℕ
     pub out : List ℕ

@@ -6,8 +6,15 @@ use Rattle.std.specs.Io.KnownBytes.{Appends, Consumes, IsAtEnd}
 use Rattle.http_streams.specs.Devices.{FailsAtLast}
 use Rattle.http_streams.specs.Reads.{EndsByOneRead}
 use Rattle.http_streams.specs.Stream.{Answering, EndsByReply, RepliesPromptly, AnswersAllRequests, StopsWithinReply}
+use Rattle.http_streams.specs.declared.serve.LoggedFault.{LoggedFault}
+use Rattle.http_streams.specs.declared.serve.LoggedFault.TheVariants.{Stream, Log}
 use Rattle.http_streams.specs.declared.serve.StreamFault.{StreamFault}
 use Rattle.http_streams.specs.declared.serve.StreamFault.TheVariants as fault
+
+-- `as_logged result` is `result`, the result of a call without a log, as the result of a call whose log did not fail.
+abbrev pub as_logged : Result (Unit {0}) StreamFault → Result (Unit {0}) LoggedFault
+as_logged (Ok done) = Ok done
+as_logged (Err why) = Err (Stream why)
 
 -- `answers` relates the requests of the service to their replies. Of a reader, `left` gives the bytes left and
 -- `read_failures` the number of its failures; `reads` and `read_fails` relate the states around a call, and around a
@@ -28,30 +35,30 @@ module _ {S R W : Type 0} (answers : Answering S) (left : R → Option (List ℕ
   --   more reply may have been sent. All requests that were complete before the last read are answered.
   -- - Log: as Write, but neither the reader nor the writer failed. specs/Logs.antt states that the log failed
   --   (`HasLogFailed`), and that nothing of the last reply was sent (`IsLastNoted`).
-  abbrev pub EndsAs : R → R → W → W → S → S → List ℕ → List ℕ → Result (Unit {0}) StreamFault → Type 0
+  abbrev pub EndsAs : R → R → W → W → S → S → List ℕ → List ℕ → Result (Unit {0}) LoggedFault → Type 0
   EndsAs first last before after old new bytes out (Ok done) =
       ((AnswersAllRequests answers old bytes out new × IsAtEnd (left last)
       × EndsByOneRead left reads first last bytes bytes)
       ⊎ (EndsByReply answers old bytes out new × RepliesPromptly answers left reads old first last bytes out))
       × (read_failures last ≡ read_failures first) × (write_failures after ≡ write_failures before)
-  EndsAs first last before after old new bytes out (Err fault.Read) =
+  EndsAs first last before after old new bytes out (Err (Stream fault.Read)) =
       AnswersAllRequests answers old bytes out new
       × (FailsAtLast read_failures read_fails first last ⊎ (2 ^ 64 - 1 ≤ length bytes))
       × (write_failures after ≡ write_failures before)
-  EndsAs first last before after old new bytes out (Err fault.NoMemory) =
+  EndsAs first last before after old new bytes out (Err (Stream fault.NoMemory)) =
       AnswersAllRequests answers old bytes out new
       × (read_failures last ≡ read_failures first) × (write_failures after ≡ write_failures before)
-  EndsAs first last before after old new bytes out (Err fault.Write) =
+  EndsAs first last before after old new bytes out (Err (Stream fault.Write)) =
       StopsWithinReply answers old bytes out new × RepliesPromptly answers left reads old first last bytes out
       × FailsAtLast write_failures write_fails before after × (read_failures last ≡ read_failures first)
-  EndsAs first last before after old new bytes out (Err fault.Log) =
+  EndsAs first last before after old new bytes out (Err Log) =
       StopsWithinReply answers old bytes out new × RepliesPromptly answers left reads old first last bytes out
       × (write_failures after ≡ write_failures before) × (read_failures last ≡ read_failures first)
 
   -- `IsAnswered first last before after old new result` holds if a call led from the reader `first`, the writer
   -- `before` and the state `old` to `last`, `after` and `new`. The call read `bytes`, wrote `out`, and ended as
   -- `result` says (`EndsAs`).
-  pub record IsAnswered (first last : R) (before after : W) (old new : S) (result : Result (Unit {0}) StreamFault)
+  pub record IsAnswered (first last : R) (before after : W) (old new : S) (result : Result (Unit {0}) LoggedFault)
       : Type 0 where
     pub bytes : List ℕ
     pub out : List ℕ

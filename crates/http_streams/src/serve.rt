@@ -1,5 +1,5 @@
 //! Answers the requests of a stream.
-ghost use Rattle.std.specs.Prelude.{◌≡◌, ◌≢◌, ◌≤◌, ◌<◌, ◌+◌, ◌⊎◌, ℕ, List, ◌++◌, [], true, Err, length, drop, Ok};
+ghost use Rattle.std.specs.Prelude.{◌≡◌, ◌≤◌, ◌<◌, ◌+◌, ◌⊎◌, ℕ, List, ◌++◌, [], true, Err, length, drop, Ok};
 ghost use Rattle.std.specs.Prelude.{None, OnOk, IfErr, IfOk, IfSome, vec_len};
 ghost use Rattle.std.specs.Vec.{vec_capacity};
 ghost use Rattle.std.specs.Io.KnownBytes.{Appends};
@@ -7,7 +7,7 @@ ghost use Rattle.http_streams.specs.Devices.{FailsAtLast};
 ghost use Rattle.http_streams.specs.ReplyText.{error_line, reply_text};
 ghost use Rattle.http_streams.specs.Request.{IsUnfinishedBelow, IsWholeAt};
 ghost use Rattle.http_streams.specs.Logs.{AreNoted, IsLastNoted, IsLogged, notes};
-ghost use Rattle.http_streams.specs.Serving.{IsAnswered};
+ghost use Rattle.http_streams.specs.Serving.{IsAnswered, as_logged};
 ghost use Rattle.http_streams.specs.Stream.{EndsByReply, Exchanges, RepliesInPart, Serves, StopsWithinReply};
 ghost use Rattle.http_streams.specs.inner.Sending.{IsSentInPart, fault_of};
 ghost use Rattle.http_streams.specs.declared.TheConstants.{REPLY_ROOM};
@@ -35,12 +35,20 @@ pub enum StreamFault {
     /// The writer failed.
     #[error("network 71: writing failed")]
     Write,
-    /// The log failed: the line of a reply was not written whole, and nothing of that reply was sent.
-    #[error("network 76: writing the log failed")]
-    Log,
     /// An allocation failed, before the first or a later read. A reply allocates only what its service allocates.
     #[error("network 1: out of memory")]
     NoMemory,
+}
+
+/// The reason why a stream with a log was not answered to its end.
+#[derive(Clone, Copy, Debug, Error)]
+pub enum LoggedFault {
+    /// A reason that a stream without a log has too.
+    #[error(transparent)]
+    Stream(StreamFault),
+    /// The log failed: the line of a reply was not written whole, and nothing of that reply was sent.
+    #[error("network 76: writing the log failed")]
+    Log,
 }
 
 /// Answers each whole request of the stream in order, before reading on, and returns at the end of the input or after a
@@ -63,13 +71,15 @@ pub fn serve<S: Service, R: Source, W: Sink>(
     writer: &mut W,
 ) -> Result<(), StreamFault>
     requires { S.line_room ≡ 0 }
-    ensures answered { IsAnswered S.answers R.left R.failed R.reads R.fails W.holds W.failed W.fails reader.old
-        reader.new writer.old writer.new service.old service.new result }
-    // Without a log no write of a line can fail.
-    ensures unlogged { result ≢ Err StreamFault.Log }
+    ensures { IsAnswered S.answers R.left R.failed R.reads R.fails W.holds W.failed W.fails reader.old
+        reader.new writer.old writer.new service.old service.new (as_logged result) }
 {
     let mut line = Vec::new(alloc);
-    serve_logged(alloc, service, reader, writer, &mut Nowhere, &mut line)
+    match serve_logged(alloc, service, reader, writer, &mut Nowhere, &mut line) {
+        Ok(()) => Ok(()),
+        Err(LoggedFault::Stream(fault)) => Err(fault),
+        Err(LoggedFault::Log) => unreachable!(),
+    }
 }
 
 /// Answers a stream like [`serve`], with a log: the line of each reply, also of a rejection, is written to `log` before
@@ -77,9 +87,9 @@ pub fn serve<S: Service, R: Source, W: Sink>(
 ///
 /// # Errors
 ///
-/// Those of [`serve`], and this one, checked before `Write`:
-///
-/// - [`StreamFault::Log`] (76): the line of a reply was not written whole; nothing of that reply was sent.
+/// - [`LoggedFault::Stream`]: an error of [`serve`].
+/// - [`LoggedFault::Log`] (76), checked before `Write`: the line of a reply was not written whole; nothing of that
+///   reply was sent.
 pub fn serve_logged<S: Service, R: Source, W: Sink, L: Sink>(
     alloc: Global,
     service: &mut S,
@@ -87,7 +97,7 @@ pub fn serve_logged<S: Service, R: Source, W: Sink, L: Sink>(
     writer: &mut W,
     log: &mut L,
     line: &mut Vec<u8>,
-) -> Result<(), StreamFault>
+) -> Result<(), LoggedFault>
     requires { S.line_room ≤ vec_capacity line.old }
     ensures answered { IsAnswered S.answers R.left R.failed R.reads R.fails W.holds W.failed W.fails reader.old
         reader.new writer.old writer.new service.old service.new result }
@@ -95,7 +105,7 @@ pub fn serve_logged<S: Service, R: Source, W: Sink, L: Sink>(
         writer.old writer.new log.old log.new result }
 {
     let Ok((mut room, mut chunk, mut text)) = rooms(alloc) else {
-        return Err(StreamFault::NoMemory);
+        return Err(LoggedFault::Stream(StreamFault::NoMemory));
     };
     let mut buffer = Vec::new(alloc);
     answer_stream(
@@ -146,7 +156,7 @@ fn answer_stream<S: Service, R: Source, W: Sink, L: Sink>(
     text: &mut Vec<u8>,
     line: &mut Vec<u8>,
     buffer: &mut Vec<u8>,
-) -> Result<(), StreamFault>
+) -> Result<(), LoggedFault>
     requires heads { MAX_HEAD ≤ length room.old }
     requires some { 0 < length chunk.old }
     requires most { length chunk.old ≤ MAX_READ }
@@ -164,8 +174,8 @@ fn answer_stream<S: Service, R: Source, W: Sink, L: Sink>(
         match read_more(reader, chunk, buffer) {
             Ok(true) => {}
             Ok(false) => return Ok(()),
-            Err(FillFault::Read) => return Err(StreamFault::Read),
-            Err(FillFault::NoMemory) => return Err(StreamFault::NoMemory),
+            Err(FillFault::Read) => return Err(LoggedFault::Stream(StreamFault::Read)),
+            Err(FillFault::NoMemory) => return Err(LoggedFault::Stream(StreamFault::NoMemory)),
         }
         if buffer.len() < needed {
             // a whole head determines where the request ends, so it is not parsed again with each piece of the body
@@ -177,12 +187,12 @@ fn answer_stream<S: Service, R: Source, W: Sink, L: Sink>(
                 needed = left.needed;
             }
             Ok(None) => return Ok(()),
-            Err(Broken::Write) => return Err(StreamFault::Write),
-            Err(Broken::Log) => return Err(StreamFault::Log),
+            Err(Broken::Write) => return Err(LoggedFault::Stream(StreamFault::Write)),
+            Err(Broken::Log) => return Err(LoggedFault::Log),
         }
     }
     // each turn read at least one byte, so the reader gave at least `u64::MAX` bytes
-    Err(StreamFault::Read)
+    Err(LoggedFault::Stream(StreamFault::Read))
 }
 
 /// The device that failed before a whole reply was sent.

@@ -1,16 +1,17 @@
 -- Connections that are served one after another, and what a site begins with.
-use Rattle.std.proofs.Common.{◌≡◌, ◌≢◌, ◌∙◌, inl, inr, ℕ, zero, suc, ◌+◌, ◌*◌, ◌<◌, min, Bool, List, [], ◌∷◌, ◌++◌, length}
+use Rattle.std.proofs.Common.{◌≡◌, ◌≢◌, ◌∙◌, inl, inr, ℕ, zero, suc, ◌+◌, ◌*◌, ◌<◌, min, Bool, true, false, List, [], ◌∷◌, ◌++◌, length}
 use Rattle.std.proofs.Common.{Option, None, Some}
 use Rattle.std.proofs.Common.{Result, Ok, Err, IsErr}
 use Rattle.std.proofs.Common.{IfOk, IfErr, refl, sym, ap, subst, arith, append_assoc, append-nil}
 use Rattle.state_exchanges.specs.http_streams.declared.devices.Source.{Ghosts as Source}
 use Rattle.state_exchanges.specs.http_streams.declared.devices.Sink.{Ghosts as Sink}
 use Rattle.state_exchanges.specs.http_streams.Logs.{IsLogged}
-use Rattle.state_exchanges.specs.http_streams.declared.serve.StreamFault.{StreamFault}
-use Rattle.state_exchanges.specs.http_streams.declared.serve.StreamFault.TheVariants as stream_fault
+use Rattle.state_exchanges.specs.http_streams.declared.serve.LoggedFault.{LoggedFault}
+use Rattle.state_exchanges.specs.http_streams.declared.serve.LoggedFault.TheVariants as logged_fault
 use Rattle.program_drills.specs.http_service.LogLines.{IsLogLine, unread_line}
 use Rattle.program_drills.specs.http_service.answer_lines.declared.refusal.Refusal.{Refusal}
 use Rattle.program_drills.specs.http_service.answer_lines.Refusals.{no_memory}
+use Rattle.program_lines.specs.declared.line.ServeOptions.{ServeOptions}
 use Rattle.site_loading.specs.schema.Schemas.{StatedSchema, IsSchemaOf}
 use Rattle.site_loading.specs.schema.Views.{schema_view}
 use Rattle.std.specs.FinMap.{len-empty, len-entries}
@@ -28,19 +29,21 @@ use Rattle.program_drills.specs.http_service.site_steps.Runs.{IsNoMessageOf}
 use Rattle.program_drills.specs.http_service.site_steps.sync_messages.Messages.{IsMessageOf}
 use Rattle.program.specs.declared.device.Link.{Link}
 use Rattle.program.specs.declared.device.NetworkFailed.{NetworkFailed}
-use Rattle.program.specs.declared.device.Stream.TheVariants.{Faults}
-use Rattle.program.specs.Events.{Event, accepted, closed, paused, served, wrote, Does, Runs}
+use Rattle.program.specs.declared.device.Stream.TheVariants.{Answers, Faults}
+use Rattle.program.specs.Events.{Event, accepted, closed, listened, log_closed, paused, served, wrote, Does, Runs}
 use Rattle.program.specs.Reports.{ended, IsFailureReported}
+use Rattle.program.specs.Courses.{Course, ClosesAfter, closing}
 use Rattle.program.specs.InitialSites.{BeginsWith, IsInitialSite, IsInitialSiteRefused, IsStateRefused, site_refusal}
 use Rattle.program.specs.Serving.{failing_line, pause_after, IsFailure, AreFailures, IsGivenUp, IsLoggedOver, IsServedOver}
-use Rattle.program.specs.Serving.{Serving, IsNextServed, AreServed, AreCutShort, AreAllServed}
+use Rattle.program.specs.Serving.{Serving, IsNextServed, AreServed, AreCutShort, AreAllServed, IsListening, IsNotListening}
+use Rattle.program.specs.Serving.{IsServedIfListening, listening_line, most_of}
 use Rattle.program.specs.inner.InitialUpdates.{TakesState}
 use Rattle.program.specs.inner.Served.{IsFailureNoted, IsTried, IsAwaited, AreServedOrFewer}
 
 -- ---- connections
 
 module _ {R W G : Type 0} (reader : Source R) (writer : Sink W) (log : Sink G) where
-  served_on : (address : List ℕ) (n : ℕ) (old mid new : Serving G) (events more : List (Event (Link R W)))
+  served_on : (address : List ℕ) (n : ℕ) (old mid new : Serving G) (events more : List (Event (Link R W) G))
       → AreServed reader writer log address n old events mid → IsNextServed reader writer log address mid more new
       → AreServed reader writer log address (suc n) old (events ++ more) new
   served_on address zero old mid new events more so next = (
@@ -49,7 +52,7 @@ module _ {R W G : Type 0} (reader : Source R) (writer : Sink W) (log : Sink G) w
     new,
     subst (λ (s : Serving G). IsNextServed reader writer log address s more new) so.1 next,
     (refl, refl),
-    ap (λ (es : List (Event (Link R W))). es ++ more) so.0 ∙ sym (append-nil more),
+    ap (λ (es : List (Event (Link R W) G)). es ++ more) so.0 ∙ sym (append-nil more),
   )
   served_on address (suc n) old mid new events more so next = (
     so.0,
@@ -57,11 +60,11 @@ module _ {R W G : Type 0} (reader : Source R) (writer : Sink W) (log : Sink G) w
     so.2,
     so.3,
     served_on address n so.2 mid new so.1 more so.4 next,
-    ap (λ (es : List (Event (Link R W))). es ++ more) so.5 ∙ append_assoc so.0 so.1 more,
+    ap (λ (es : List (Event (Link R W) G)). es ++ more) so.5 ∙ append_assoc so.0 so.1 more,
   )
 
   -- the log that was kept has the lines, and is kept
-  pub logged_over : (kept left_kept : Option G) (old new : G) (link left : Link R W) (end : Result (Unit {0}) StreamFault)
+  pub logged_over : (kept left_kept : Option G) (old new : G) (link left : Link R W) (end : Result (Unit {0}) LoggedFault)
       → kept ≡ Some old → left_kept ≡ Some new
       → IsLogged IsLogLine unread_line log.holds log.failed log.fails reader.left writer.holds link.reader left.reader
       link.writer left.writer old new end
@@ -71,8 +74,8 @@ module _ {R W G : Type 0} (reader : Source R) (writer : Sink W) (log : Sink G) w
       (subst (λ (k : Option G). IsLoggedOver reader writer log (Some old) link end left k) (sym is) noted)
 
   -- none was kept, and none is
-  pub unlogged_over : (kept left_kept : Option G) (link left : Link R W) (end : Result (Unit {0}) StreamFault)
-      → kept ≡ None → left_kept ≡ None → end ≢ Err stream_fault.Log → IsLoggedOver reader writer log kept link end left left_kept
+  pub unlogged_over : (kept left_kept : Option G) (link left : Link R W) (end : Result (Unit {0}) LoggedFault)
+      → kept ≡ None → left_kept ≡ None → end ≢ Err logged_fault.Log → IsLoggedOver reader writer log kept link end left left_kept
   unlogged_over kept left_kept link left end was is unlogged =
       subst (λ (k : Option G). IsLoggedOver reader writer log k link end left left_kept) (sym was)
       (subst (λ (k : Option G). IsLoggedOver reader writer log None link end left k) (sym is) unlogged)
@@ -80,18 +83,18 @@ module _ {R W G : Type 0} (reader : Source R) (writer : Sink W) (log : Sink G) w
 suc_is : (n : ℕ) → suc n ≡ n + 1
 suc_is n = omega arith
 
-module _ {L : Type 0} where
-  noted : (address : List ℕ) (before : ℕ) (rest : List (Event L)) → IsFailureNoted address before rest
+module _ {L G : Type 0} where
+  noted : (address : List ℕ) (before : ℕ) (rest : List (Event L G)) → IsFailureNoted address before rest
       → IsFailure address before (accepted None ∷ rest)
-  noted address zero rest so = (so.0, ap (λ (es : List (Event L)). accepted None ∷ es) so.1)
-  noted address (suc before) rest so = ap (λ (es : List (Event L)). accepted None ∷ es) so
+  noted address zero rest so = (so.0, ap (λ (es : List (Event L G)). accepted None ∷ es) so.1)
+  noted address (suc before) rest so = ap (λ (es : List (Event L G)). accepted None ∷ es) so
 
 pub longer_pause : (before pause next : ℕ) → pause ≡ pause_after before → next ≡ min (2 * pause) 1000 → next ≡ pause_after (before + 1)
 longer_pause before pause next pause_is next_is =
     next_is ∙ ap (λ (p : ℕ). min (2 * p) 1000) pause_is ∙ ap pause_after (suc_is before)
 
-module _ {L H : Type 0} (does : H → Event L → H → Type 0) where
-  does_append : (xs ys : List (Event L)) (old mid new : H) → Does does xs old mid → Does does ys mid new → Does does (xs ++ ys) old new
+module _ {L G H : Type 0} (does : H → Event L G → H → Type 0) where
+  does_append : (xs ys : List (Event L G)) (old mid new : H) → Does does xs old mid → Does does ys mid new → Does does (xs ++ ys) old new
   does_append [] ys old mid new first second = subst (λ (h : H). Does does ys h new) first second
   does_append (x ∷ xs) ys old mid new first second = (first.0, first.1, does_append xs ys first.0 mid new first.2 second)
 
@@ -139,7 +142,7 @@ module _ {L H : Type 0} (does : H → Event L → H → Type 0) where
   link_awaited address n old mid new link so next = (
     so.0 ++ next.0,
     does_append so.0 next.0 old mid new so.1 next.1,
-    (n, so.0, so.2, ap (λ (es : List (Event L)). so.0 ++ es) next.2),
+    (n, so.0, so.2, ap (λ (es : List (Event L G)). so.0 ++ es) next.2),
   )
 
   -- it was given up
@@ -147,14 +150,14 @@ module _ {L H : Type 0} (does : H → Event L → H → Type 0) where
       → Runs does old new (λ events. AreFailures address n events) → Runs does old new (λ events. IsAwaited address (Err failed) events)
   given_up address n old new failed is so = (so.0, so.1, (n, is, so.2))
 
-module _ {R W G H : Type 0} (does : H → Event (Link R W) → H → Type 0) (reader : Source R) (writer : Sink W) (log : Sink G) where
+module _ {R W G H : Type 0} (does : H → Event (Link R W) G → H → Type 0) (reader : Source R) (writer : Sink W) (log : Sink G) where
   -- so many connections were served, from one site to another
   abbrev pub IsServedSoFar : List ℕ → H → H → Serving G → Serving G → ℕ → Type 0
   IsServedSoFar address old new before after n = Runs does old new (λ events. AreServed reader writer log address n before events after)
 
   -- a connection came, was served and let go
   pub next_served : (address : List ℕ) (old mid last new : H) (before after : Serving G) (link left : Link R W)
-      (end : Result (Unit {0}) StreamFault) → Runs does old mid (λ events. IsAwaited address (Ok link) events)
+      (end : Result (Unit {0}) LoggedFault) → Runs does old mid (λ events. IsAwaited address (Ok link) events)
       → IsServedOver reader writer log before link end left after → does mid (closed left) last → does last (served end) new
       → Runs does old new (λ events. IsNextServed reader writer log address before events after)
   next_served address old mid last new before after link left end came answered gone noted = (
@@ -167,7 +170,7 @@ module _ {R W G H : Type 0} (does : H → Event (Link R W) → H → Type 0) (re
       left,
       end,
       came.2.2,
-      ap (λ (es : List (Event (Link R W))). es ++ closed left ∷ served end ∷ []) came.2.3
+      ap (λ (es : List (Event (Link R W) G)). es ++ closed left ∷ served end ∷ []) came.2.3
           ∙ append_assoc came.2.1 (accepted (Some link) ∷ []) (closed left ∷ served end ∷ []),
       answered,
     ),
@@ -216,19 +219,80 @@ module _ {R W G H : Type 0} (does : H → Event (Link R W) → H → Type 0) (re
   )
 
   -- either is all of a run that serves
-  pub serving_done : (address : List ℕ) (old new : H) (before after : Serving G) (most end : ℕ)
-      → Runs does old new (λ events. AreServed reader writer log address most before events after) → end ≡ 0
-      → Runs does old new (λ events. AreAllServed reader writer log address most before events end)
-  serving_done address old new before after most end so is = (so.0, so.1, inl ((after, so.2), is))
+  pub serving_done : (address : List ℕ) (old new : H) (before : Serving G) (site : SiteView) (left : Option G) (most end : ℕ)
+      → Runs does old new (λ events. AreServed reader writer log address most before events (record { site = site; log = left })) → end ≡ 0
+      → Runs does old new (λ events. AreAllServed reader writer log address most before left events end)
+  serving_done address old new before site left most end so is = (so.0, so.1, inl (site, so.2, is))
 
-  pub serving_cut : (address : List ℕ) (old mid new : H) (before after : Serving G) (most end : ℕ)
-      → Runs does old mid (λ events. AreCutShort reader writer log address most before events after)
+  pub serving_cut : (address : List ℕ) (old mid new : H) (before : Serving G) (site : SiteView) (left : Option G) (most end : ℕ)
+      → Runs does old mid (λ events. AreCutShort reader writer log address most before events (record { site = site; log = left }))
       → Runs does mid new (λ events. IsFailureReported address events end)
-      → Runs does old new (λ events. AreAllServed reader writer log address most before events end)
-  serving_cut address old mid new before after most end so told = (
+      → Runs does old new (λ events. AreAllServed reader writer log address most before left events end)
+  serving_cut address old mid new before site left most end so told = (
     so.0 ++ told.0,
     does_append does so.0 told.0 old mid new so.1 told.1,
-    inr (after, so.0, told.0, so.2, told.2, refl),
+    inr (site, so.0, told.0, so.2, told.2, refl),
+  )
+
+  -- behind the line that tells where the run listens
+  pub served_listening : (options : ServeOptions) (old mid new : H) (before : Serving G) (left : Option G) (end : ℕ)
+      → Runs does old mid (IsListening options)
+      → Runs does mid new (λ events. AreAllServed reader writer log options.listen.now (most_of options.connections) before left events end)
+      → Runs does old new (λ events. IsServedIfListening reader writer log options before left events end)
+  served_listening options old mid new before left end so told = (
+    so.0 ++ told.0,
+    does_append does so.0 told.0 old mid new so.1 told.1,
+    inl (so.0, told.0, so.2, told.2, refl),
+  )
+
+  -- or the run does not listen, and the log stays
+  pub not_served : (options : ServeOptions) (old new : H) (before : Serving G) (end : ℕ)
+      → Runs does old new (λ events. IsNotListening options events end)
+      → Runs does old new (λ events. IsServedIfListening reader writer log options before before.log events end)
+  not_served options old new before end so = (so.0, so.1, inr (so.2, refl))
+
+-- ---- the address and the log
+
+module _ {L G H : Type 0} (does : H → Event L G → H → Type 0) where
+  pub listens : (options : ServeOptions) (old mid new : H) → does old (listened options.listen.now options.idle true) mid
+      → does mid (wrote Answers (ended (listening_line options.listen.now)) true) new → Runs does old new (IsListening options)
+  listens options old mid new step line = (
+    listened options.listen.now options.idle true ∷ wrote Answers (ended (listening_line options.listen.now)) true ∷ [],
+    (mid, step, (new, line, refl)),
+    refl,
+  )
+
+  pub listens_not : (options : ServeOptions) (old mid new : H) (end : ℕ) → does old (listened options.listen.now options.idle false) mid
+      → Runs does mid new (λ events. IsFailureReported options.listen.now events end)
+      → Runs does old new (λ events. IsNotListening options events end)
+  listens_not options old mid new end step told =
+      (listened options.listen.now options.idle false ∷ told.0, (mid, step, told.1), inl (told.0, refl, told.2))
+
+  pub prints_not : (options : ServeOptions) (old mid new : H) (end : ℕ) → does old (listened options.listen.now options.idle true) mid
+      → does mid (wrote Answers (ended (listening_line options.listen.now)) false) new → end ≡ 3
+      → Runs does old new (λ events. IsNotListening options events end)
+  prints_not options old mid new end step line is = (
+    listened options.listen.now options.idle true ∷ wrote Answers (ended (listening_line options.listen.now)) false ∷ [],
+    (mid, step, (new, line, refl)),
+    inr (refl, is),
+  )
+
+  -- a log is closed, if there is one
+  pub closes : (old new : H) (kept : Option G) (log : G) → kept ≡ Some log → does old (log_closed log) new
+      → Runs does old new (λ events. events ≡ closing kept)
+  closes old new kept log is step = (log_closed log ∷ [], (new, step, refl), sym (ap (closing {L = L}) is))
+
+  pub closes_none : (old : H) (kept : Option G) → kept ≡ None → Runs does old old (λ events. events ≡ closing kept)
+  closes_none old kept is = ([], refl, sym (ap (closing {L = L}) is))
+
+  -- it is closed at the end
+  pub closed_after : (goes_on : Option G → Course L G) (old mid new : H) (left : Option G) (end : ℕ)
+      → Runs does old mid (λ events. goes_on left events end) → Runs does mid new (λ events. events ≡ closing left)
+      → Runs does old new (λ events. ClosesAfter goes_on events end)
+  closed_after goes_on old mid new left end so gone = (
+    so.0 ++ gone.0,
+    does_append does so.0 gone.0 old mid new so.1 gone.1,
+    (left, so.0, so.2, ap (λ (es : List (Event L G)). so.0 ++ es) gone.2),
   )
 
 -- ---- what a site begins with

@@ -70,17 +70,17 @@ check_files options schema policies = record {
 }
 
 -- Where a sentence of this module says that an error is reported, the error may be out of memory.
-module _ {L : Type 0} where
+module _ {L G : Type 0} where
   -- `IsDecidedOrRefused options schema policies entities request`: the answer line of the texts `schema`, `policies`,
   -- `entities` and `request` is printed, or their error is reported and, if `options` have `--explain`, explained.
-  abbrev pub IsDecidedOrRefused : DecideOptions → Option (List ℕ) → List ℕ → List ℕ → List ℕ → Course L
+  abbrev pub IsDecidedOrRefused : DecideOptions → Option (List ℕ) → List ℕ → List ℕ → List ℕ → Course L G
   IsDecidedOrRefused options schema policies entities request =
       IsLineOrErrorExplained options.explain (decide_files options schema policies entities request)
       (IsDecided schema policies entities request) (IsNotDecided schema policies entities request)
 
   -- `AreChecked options schema policies`: the lines of `policies` under `schema` are printed, or the error is reported;
   -- if `options` have `--explain`, what is rejected is explained.
-  abbrev pub AreChecked : CheckOptions → List ℕ → List ℕ → Course L
+  abbrev pub AreChecked : CheckOptions → List ℕ → List ℕ → Course L G
   AreChecked options schema policies events end =
       ((text : List ℕ) × (some_refused : Bool) × checks.IsChecked schema policies text some_refused
       × Explains (options.explain && some_refused) (IsExplained (check_files options schema policies))
@@ -91,20 +91,20 @@ module _ {L : Type 0} where
   -- `AreMerged options schema first second`: the state with the updates of `first` and `second`, two messages of
   -- `schema`, is printed, or the error is reported. If `options` have `--explain`, the error is then explained
   -- (`IsMergeText`).
-  abbrev pub AreMerged : MergeOptions → List ℕ → List ℕ → List ℕ → Course L
+  abbrev pub AreMerged : MergeOptions → List ℕ → List ℕ → List ℕ → Course L G
   AreMerged options schema first second = IsLineOrErrorThenText options.explain
       (IsMergeText (schema_files options.schema.now schema) options schema first)
       (merges.IsMerged schema first second) (merges.AreRefused schema first second)
 
   -- `IsDrilledOrRefused sites schema script`: the lines of `script`, executed at `sites` sites of `schema`, are
   -- printed, or the error is reported.
-  abbrev pub IsDrilledOrRefused : ℕ → List ℕ → List ℕ → Course L
+  abbrev pub IsDrilledOrRefused : ℕ → List ℕ → List ℕ → Course L G
   IsDrilledOrRefused sites schema script =
       IsLineOrRefusal (drills.IsDrilled sites schema script) (drills.IsDrillRefused sites schema script)
 
   -- `IsDecideRun options`: the files that `options` name are read, first the schema, if one is named, then policies,
   -- entities and request; then the request is decided.
-  abbrev pub IsDecideRun : DecideOptions → Course L
+  abbrev pub IsDecideRun : DecideOptions → Course L G
   IsDecideRun options =
       ReadsIfNamed (option_map (λ s. s.now) options.schema) (λ schema.
       Reads options.policies.now (λ policies.
@@ -114,13 +114,13 @@ module _ {L : Type 0} where
 
   -- `IsCheckRun options`: of the files that `options` name, the schema is read, then the policies; then the policies
   -- are checked.
-  abbrev pub IsCheckRun : CheckOptions → Course L
+  abbrev pub IsCheckRun : CheckOptions → Course L G
   IsCheckRun options =
       Reads options.schema.now (λ schema. Reads options.policies.now (λ policies. AreChecked options schema policies))
 
   -- `IsMergeRun options`: of the files that `options` name, the schema is read, then the two messages; then the
   -- messages are merged.
-  abbrev pub IsMergeRun : MergeOptions → Course L
+  abbrev pub IsMergeRun : MergeOptions → Course L G
   IsMergeRun options =
       Reads options.schema.now (λ schema.
       Reads options.first.now (λ first.
@@ -129,7 +129,7 @@ module _ {L : Type 0} where
 
   -- `IsDrillRun options`: of the files that `options` name, the schema is read, then the script; then the script is
   -- executed.
-  abbrev pub IsDrillRun : DrillOptions → Course L
+  abbrev pub IsDrillRun : DrillOptions → Course L G
   IsDrillRun options =
       Reads options.schema.now (λ schema.
       Reads options.script.now (λ script.
@@ -137,7 +137,7 @@ module _ {L : Type 0} where
 
 module _ {R W G : Type 0} (reader : Source R) (writer : Sink W) (log : Sink G) where
   -- `IsLineRun line`: the command `line` is run.
-  abbrev pub IsLineRun : Line → Course (Link R W)
+  abbrev pub IsLineRun : Line → Course (Link R W) G
   IsLineRun (Check options) = IsCheckRun options
   IsLineRun (Decide options) = IsDecideRun options
   IsLineRun (Load options) = IsLoadRun options
@@ -149,7 +149,7 @@ module _ {R W G : Type 0} (reader : Source R) (writer : Sink W) (log : Sink G) w
   IsLineRun (Explain options) = IsExplainRun options
 
   -- `IsRun words`: the command of the arguments `words` is run, or their error, or out of memory, is reported.
-  abbrev pub IsRun : List Text → Course (Link R W)
+  abbrev pub IsRun : List Text → Course (Link R W) G
   IsRun words events end =
       ((line : Line) × IsCommandOf words line × (fault_of site_app words ≡ []) × IsLineRun line events end)
       ⊎ ((fault : LineFault) × IsFaultOf words fault × IsFaultReported fault events end)

@@ -1,13 +1,13 @@
 //! The machine that a run needs: files, two streams, connections, logs and pauses.
 ghost use Rattle.std.specs.Prelude.{◌++◌, Ok, Err, Some, None, MatchResult, is_ok};
 ghost use Rattle.program.specs.declared.device.Link.{Link};
-ghost use Rattle.program.specs.Events.{Event, accepted, closed, connected, listened, opened, paused, printed};
-ghost use Rattle.program.specs.Events.{read, served, stored, wrote};
+ghost use Rattle.program.specs.Events.{Event, accepted, closed, connected, listened, log_closed, opened, paused};
+ghost use Rattle.program.specs.Events.{printed, read, served, stored, wrote};
 ghost use Rattle.program.specs.Reports.{ended};
 
 use crate::device::{FileFault, Link, NetworkFailed, Stream, StreamFailed};
 use program_lines::LineFault;
-use state_exchanges::{Sink, Source, StreamFault};
+use state_exchanges::{LoggedFault, Sink, Source};
 
 /// A machine with files, two streams, connections, logs and pauses.
 pub trait Host {
@@ -24,7 +24,7 @@ pub trait Host {
     type Log: Sink + Drop;
 
     // `does old event new` holds if `event` may happen in the state `old` and lead to `new`.
-    ghost does: { Self → Event (Link Self.Reader Self.Writer) → Self → Type 0 };
+    ghost does: { Self → Event (Link Self.Reader Self.Writer) Self.Log → Self → Type 0 };
 
     /// Returns the bytes of a file.
     ///
@@ -51,7 +51,12 @@ pub trait Host {
     ///
     /// - `FileFault`: the log cannot be opened.
     fn open_log(&mut self, name: &str) -> Result<Self::Log, FileFault>
-        ensures { does self.old (opened name.now (is_ok result)) self.new };
+        ensures { MatchResult result (λ log. does self.old (opened name.now (Some log)) self.new)
+            (λ fault. does self.old (opened name.now None) self.new) };
+
+    /// Closes a log.
+    fn close_log(&mut self, log: Self::Log)
+        ensures { does self.old (log_closed log) self.new };
 
     /// Writes a label, a line and a line feed to a stream.
     ///
@@ -104,7 +109,7 @@ pub trait Host {
         ensures { does self.old (closed link) self.new };
 
     /// Records how the serving of a connection ended.
-    fn note_served(&mut self, end: Result<(), StreamFault>)
+    fn note_served(&mut self, end: Result<(), LoggedFault>)
         ensures { does self.old (served end) self.new };
 
     /// Pauses for `millis` milliseconds.

@@ -1,12 +1,12 @@
 //! The command `serve`: a served site, one connection after another.
-ghost use Rattle.std.specs.Prelude.{◌≡◌, ◌*◌, min, option_map};
+ghost use Rattle.std.specs.Prelude.{◌≡◌, ◌*◌, MatchResult, min, option_map};
 ghost use Rattle.std.specs.Process.{exit_status};
 ghost use Rattle.program_lines.specs.stamped_store.Stamping.{has_stamps_of};
 ghost use Rattle.site_loading.specs.site_steps.SiteViews.{store_in};
 ghost use Rattle.program.specs.Events.{Runs};
-ghost use Rattle.program.specs.Courses.{Listens};
-ghost use Rattle.program.specs.Serving.{IsServedAt, IsServedFrom, IsServedListening, IsServedOver, IsServeRun, most_of};
-ghost use Rattle.program.specs.Serving.{own_stamps_line, pause_after};
+ghost use Rattle.program.specs.Courses.{ClosesAfter, closing};
+ghost use Rattle.program.specs.Serving.{IsListening, IsNotListening, IsServedAt, IsServedFrom, IsServedIfListening};
+ghost use Rattle.program.specs.Serving.{IsServedOver, IsServeRun, most_of, own_stamps_line, pause_after};
 ghost use Rattle.program.specs.inner.Served.{AreServedOrFewer, IsAwaited, IsFailureNoted, IsNextOrNone};
 ghost use Rattle.program.specs.inner.Served.{IsTried, IsWarned};
 
@@ -16,8 +16,9 @@ use crate::initial_site::initial_site;
 use crate::reading::{lent, read_file, read_if_named};
 use crate::rejecting::{report_rejected, schema_given};
 use crate::report::{ANSWERED, FAILED, report_failure};
-use program_drills::{Site, StreamFault, serve, serve_logged};
+use program_drills::{Site, serve, serve_logged};
 use program_lines::{ServeOptions, SiteName};
+use state_exchanges::LoggedFault;
 use std::alloc::Global;
 use std::process::ExitCode;
 
@@ -103,13 +104,16 @@ fn serve_link<H: Host>(
     link: &mut Link<H::Reader, H::Writer>,
     site: &mut Site,
     log: &mut Option<H::Log>,
-) -> Result<(), StreamFault>
+) -> Result<(), LoggedFault>
     ensures { IsServedOver H.Reader.Source H.Writer.Sink H.Log.Sink (record { site = site.old; log = log.old }) link.old
         result link.new (record { site = site.new; log = log.new }) }
 {
     match log {
         Some(log) => serve_logged(alloc, site, &mut link.reader, &mut link.writer, log),
-        None => serve(alloc, site, &mut link.reader, &mut link.writer),
+        None => match serve(alloc, site, &mut link.reader, &mut link.writer) {
+            Ok(()) => Ok(()),
+            Err(fault) => Err(LoggedFault::Stream(fault)),
+        },
     }
 }
 
@@ -195,10 +199,37 @@ fn serve_initial_site<H: Host>(
     warn_of_own_stamps(host, &site, options.site);
     match options.log {
         Some(name) => match host.open_log(name) {
-            Ok(log) => serve_listening(alloc, host, options, site, Some(log)),
+            Ok(log) => serve_and_close(alloc, host, options, site, Some(log)),
             Err(_) => report_failure(host, name),
         },
-        None => serve_listening(alloc, host, options, site, None),
+        None => serve_and_close(alloc, host, options, site, None),
+    }
+}
+
+/// Listens and serves, and then closes the log, if there is one.
+fn serve_and_close<H: Host>(
+    alloc: Global,
+    host: &mut H,
+    options: &ServeOptions<'_>,
+    mut site: Site,
+    mut log: Option<H::Log>,
+) -> ExitCode
+    ensures { Runs H.does host.old host.new (λ events.
+        ClosesAfter (IsServedIfListening H.Reader.Source H.Writer.Sink H.Log.Sink options.now
+        (record { site = site; log = log })) events (exit_status result)) }
+{
+    let end = serve_listening(alloc, host, options, &mut site, &mut log);
+    close_log(host, log);
+    end
+}
+
+/// Closes a log, if there is one.
+fn close_log<H: Host>(host: &mut H, log: Option<H::Log>)
+    ensures { Runs H.does host.old host.new (λ events. events ≡ closing log) }
+{
+    match log {
+        Some(log) => host.close_log(log),
+        None => {}
     }
 }
 
@@ -208,25 +239,38 @@ fn serve_listening<H: Host>(
     alloc: Global,
     host: &mut H,
     options: &ServeOptions<'_>,
-    mut site: Site,
-    mut log: Option<H::Log>,
+    site: &mut Site,
+    log: &mut Option<H::Log>,
 ) -> ExitCode
     ensures { Runs H.does host.old host.new (λ events.
-        Listens options.now.listen.now options.now.idle (IsServedListening H.Reader.Source H.Writer.Sink H.Log.Sink
-        options.now (record { site = site; log = log })) events (exit_status result)) }
+        IsServedIfListening H.Reader.Source H.Writer.Sink H.Log.Sink options.now
+        (record { site = site.old; log = log.old }) log.new events (exit_status result)) }
+{
+    let listener = match listen(host, options) {
+        Ok(listener) => listener,
+        Err(end) => return end,
+    };
+    let address = options.listen;
+    let most = most_of(options.connections);
+    match serve_all(alloc, host, &listener, address, site, log, most) {
+        Ok(()) => ExitCode::from(ANSWERED),
+        Err(NetworkFailed) => report_failure(host, address),
+    }
+}
+
+/// Listens, and prints the address. Returns the listener, or the status of the run if either failed.
+fn listen<H: Host>(host: &mut H, options: &ServeOptions<'_>) -> Result<H::Listener, ExitCode>
+    ensures { MatchResult result (λ listener. Runs H.does host.old host.new (λ events. IsListening options.now events))
+        (λ end. Runs H.does host.old host.new (λ events. IsNotListening options.now events (exit_status end))) }
 {
     let address = options.listen;
     let listener = match host.listen(address, options.idle) {
         Ok(listener) => listener,
-        Err(NetworkFailed) => return report_failure(host, address),
+        Err(NetworkFailed) => return Err(report_failure(host, address)),
     };
-    if let Err(StreamFailed) = host.write_line(Stream::Answers, "listening ", address.as_bytes()) {
-        return ExitCode::from(FAILED);
-    }
-    let most = most_of(options.connections);
-    match serve_all(alloc, host, &listener, address, &mut site, &mut log, most) {
-        Ok(()) => ExitCode::from(ANSWERED),
-        Err(NetworkFailed) => report_failure(host, address),
+    match host.write_line(Stream::Answers, "listening ", address.as_bytes()) {
+        Ok(()) => Ok(listener),
+        Err(StreamFailed) => Err(ExitCode::from(FAILED)),
     }
 }
 

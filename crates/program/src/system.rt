@@ -1,13 +1,13 @@
 //! The machine of a run: the files, standard streams, network and clock of the operating system.
 ghost use Rattle.std.specs.Prelude.{◌++◌, OnOk};
 ghost use Rattle.std.specs.Io.KnownBytes.{Appends};
-ghost use Rattle.program.specs.Events.{Changes, closed};
+ghost use Rattle.program.specs.Events.{Changes, closed, log_closed};
 ghost use Rattle.program.specs.Reports.{ended};
 
 use crate::device::{FileFault, Link, NetworkFailed, Stream, StreamFailed};
 use crate::host::Host;
 use program_lines::LineFault;
-use state_exchanges::{Counted, StreamFault};
+use state_exchanges::{Counted, LoggedFault};
 use std::fs::{File, Files, OpenFile, OpenOptions};
 use std::io::{ErrorKind, Read, Seek, SeekFrom, Write};
 use std::net::{Net, OpenListener, OpenStream, TcpListener, TcpStream};
@@ -251,6 +251,13 @@ impl<R: Files + Net + Clock + AllocGlobal, O: Write + Drop, E: Write> Host
         }
     }
 
+    fn close_log(&mut self, log: Self::Log)
+        ensures { Changes {L = Unit {0}} O.contents E.contents self.old.answers self.old.faults (log_closed log)
+            self.new.answers self.new.faults }
+    {
+        drop(log);
+    }
+
     fn write_line(&mut self, stream: Stream, label: &str, line: &[u8]) -> Result<(), StreamFailed> {
         match stream {
             Stream::Answers => write_line(&mut self.answers, label, line),
@@ -301,13 +308,13 @@ impl<R: Files + Net + Clock + AllocGlobal, O: Write + Drop, E: Write> Host
     }
 
     fn close(&mut self, link: Link<Self::Reader, Self::Writer>)
-        ensures { Changes O.contents E.contents self.old.answers self.old.faults (closed link) self.new.answers
-            self.new.faults }
+        ensures { Changes {G = Unit {0}} O.contents E.contents self.old.answers self.old.faults (closed link)
+            self.new.answers self.new.faults }
     {
         drop(link);
     }
 
-    fn note_served(&mut self, _end: Result<(), StreamFault>) {}
+    fn note_served(&mut self, _end: Result<(), LoggedFault>) {}
 
     fn pause(&mut self, millis: u64) {
         thread::sleep(self.files, Duration::from_millis(millis))

@@ -9,7 +9,5 @@ mod split;
 mod whole;
 
 pub use drilling::drill_text;
-pub use http_service::{
-    Refusal, Site, SiteFault, StreamFault, Taken, error_line, serve, serve_logged,
-};
+pub use http_service::{Refusal, Site, SiteFault, Taken, error_line, serve, serve_logged};
 pub use schema_decisions::{check_texts, decide_under};

@@ -5,7 +5,9 @@ use crate::repeats::Repeats;
 use crate::replies::push_state;
 use crate::written::{first_word, number_of, push_escaped, push_unescaped, text_in};
 use entities::Schema;
-use http_service::{Fed, Kept, Plan, Site, SiteName, StreamFault, serve, serve_logged};
+use http_service::{
+    Fed, Kept, LoggedFault, Plan, Site, SiteName, StreamFault, serve, serve_logged,
+};
 use plain::{NoMemory, Shared, pair_with};
 use std::alloc::Global;
 
@@ -114,8 +116,16 @@ fn push_fault(line: &mut Line, fault: Option<StreamFault>) {
         None => line.push(b"-, "),
         Some(StreamFault::Read) => line.push(b"70, "),
         Some(StreamFault::Write) => line.push(b"71, "),
-        Some(StreamFault::Log) => line.push(b"76, "),
         Some(StreamFault::NoMemory) => line.push(b"1, "),
+    }
+}
+
+/// Appends the code of an error of a stream with a log, or `-` without one.
+fn push_logged_fault(line: &mut Line, fault: Option<LoggedFault>) {
+    match fault {
+        None => push_fault(line, None),
+        Some(LoggedFault::Stream(fault)) => push_fault(line, Some(fault)),
+        Some(LoggedFault::Log) => line.push(b"76, "),
     }
 }
 
@@ -239,10 +249,10 @@ fn push_served_logged(
     let mut writer = Kept::new(alloc, Plan::new(&[], None));
     let mut log = Kept::new(alloc, log);
     let fault = serve_logged(alloc, &mut site, &mut reader, &mut writer, &mut log).err();
-    push_fault(line, fault);
+    push_logged_fault(line, fault);
     push_count(line, text_in(writer.bytes()));
     push_escaped(line, log.bytes());
-    matches!(fault, Some(StreamFault::Log))
+    matches!(fault, Some(LoggedFault::Log))
 }
 
 /// Serves a stream once for each write of the log, with a failure of that write, up to a write that never happens.

@@ -26,7 +26,7 @@ use Rattle.site.specs.declared.event.Event.{Event}
 use Rattle.site.specs.declared.event.EventReply.{EventReply}
 use Rattle.site.specs.Sites.{SiteName, numbered, World, start}
 use Rattle.site.specs.Worlds.{IsStepAt, HappensAt, Happens, Leads, WasIssued, input_of}
-use Rattle.site.specs.Promises.{KeepsPromises, DescribesBy, IssuesBy, SystemsKeepPromises}
+use Rattle.site.specs.Promises.{KeepsPromises, DescribesBy, IssuesBy}
 use Rattle.site.specs.Promises as site
 use Rattle.site.specs.site_steps.entities.StatedEntities.{DescribesEntity}
 use Rattle.site.specs.site_steps.entities.ParsingLaws.{EntitiesAreRead}

@@ -20,7 +20,7 @@ mod pulling;
 pub use asking::{ExchangeCall, ask};
 pub use counts::is_taken_line;
 pub use fault::{NetworkFault, PullFault};
-pub use http_streams::serve::StreamFault;
+pub use http_streams::serve::LoggedFault;
 pub use http_streams::{Counted, Kept, Plan, Sink, Source};
 pub use joining::{Joined, join_message, message_refusal, state_of};
 pub use laws::{merges_have_one_outcome, order_and_repeats_do_not_matter};

@@ -6,13 +6,14 @@ use Rattle.std.specs.Io.KnownBytes.{Appends}
 use Rattle.http_streams.specs.Logs.{IsFront}
 use Rattle.http_streams.specs.declared.serve.Broken.{Broken}
 use Rattle.http_streams.specs.declared.serve.Broken.TheVariants.{Log, Write}
-use Rattle.http_streams.specs.declared.serve.StreamFault.{StreamFault}
+use Rattle.http_streams.specs.declared.serve.LoggedFault.{LoggedFault}
+use Rattle.http_streams.specs.declared.serve.LoggedFault.TheVariants as logged_fault
 use Rattle.http_streams.specs.declared.serve.StreamFault.TheVariants as fault
 
 -- `fault_of broken` is the error with which a stream ends if the device `broken` failed.
-abbrev pub fault_of : Broken → StreamFault
-fault_of Log = fault.Log
-fault_of Write = fault.Write
+abbrev pub fault_of : Broken → LoggedFault
+fault_of Log = logged_fault.Log
+fault_of Write = logged_fault.Stream fault.Write
 
 -- `IsSentInPart broken logged holds line reply old new before after` holds if the writes stopped when the device
 -- `broken` failed. If it is the log, a proper prefix of `line` was written to the log, and nothing to the writer. If it

@@ -1,4 +1,4 @@
-use Rattle.std.proofs.Common.{◌≡◌, Ok, Err, ℕ, List, [], ◌++◌, length, drop, false, true, refl, sym, ap, ◌∙◌, subst, inl, inr, arith, length-drop}
+use Rattle.std.proofs.Common.{◌≡◌, Ok, Err, ℕ, List, [], ◌++◌, length, drop, false, true, refl, ap, ◌∙◌, subst, inl, inr, arith, length-drop}
 use Rattle.std.proofs.lemmas.List.{drop-drop, take_rest}
 use Rattle.http_streams.specs.Request.{IsRefused}
 use Rattle.http_streams.specs.Stream.{Exchanges}

@@ -5,6 +5,7 @@ use Rattle.http_streams.specs.Request.{IsUnfinished, StaysUnfinished}
 use Rattle.http_streams.specs.Stream.{AnswersAllRequests, Serves}
 use Rattle.std.proofs.KnownBytes.{Appends-nil, Appends-trans, Consumes-nil, Consumes-trans, Consumes-kept}
 use Rattle.http_streams.specs.Logs.{AreNoted, notes}
+use Rattle.http_streams.specs.declared.serve.LoggedFault.TheVariants.{Stream, Log}
 use Rattle.http_streams.specs.declared.serve.StreamFault.TheVariants as fault
 use Rattle.http_streams.proofs.LogLemmas.{noted_after, noted_so_far}
 use Rattle.http_streams.proofs.StreamLemmas.{Serves-read, Serves-then, EndsByReply-after, AnswersAllRequests-from, StopsWithinReply-after}
@@ -238,7 +239,7 @@ returns-in-Err-Read-clause-logged g c =
       out = so_far.1;
       read = Consumes-kept _ _ _ _ so_far.3 c.in-Err-Read.ensures.lost.0;
       written = so_far.4;
-      noted = noted_so_far g.S.Service.lines g.S.Service.refusal_line g.L.Sink.holds (Err fault.Read) so_far.7 _ _ _ _ _ so_far.8 (refl, refl);
+      noted = noted_so_far g.S.Service.lines g.S.Service.refusal_line g.L.Sink.holds (Err (Stream fault.Read)) so_far.7 _ _ _ _ _ so_far.8 (refl, refl);
       failed = c.loop-turn.invariant.log_count;
     }
 
@@ -250,7 +251,7 @@ returns-in-Err-NoMemory-clause-logged g c =
       out = so_far.1;
       read = Consumes-kept _ _ _ _ so_far.3 c.in-Err-NoMemory.ensures.lost.0;
       written = so_far.4;
-      noted = noted_so_far g.S.Service.lines g.S.Service.refusal_line g.L.Sink.holds (Err fault.NoMemory) so_far.7 _ _ _ _ _ so_far.8 (refl, refl);
+      noted = noted_so_far g.S.Service.lines g.S.Service.refusal_line g.L.Sink.holds (Err (Stream fault.NoMemory)) so_far.7 _ _ _ _ _ so_far.8 (refl, refl);
       failed = c.loop-turn.invariant.log_count;
     }
 
@@ -280,7 +281,7 @@ returns-in-Err-Write-clause-logged g c =
       out = so_far.1 ++ done.0;
       read = Consumes-trans _ _ _ _ _ so_far.3 came.1;
       written = Appends-trans _ _ _ _ _ so_far.4 done.1;
-      noted = noted_after g.S.Service.lines g.S.Service.refusal_line g.L.Sink.holds (Err fault.Write) so_far.7 _ _ _ _ _ _ _ all done.3;
+      noted = noted_after g.S.Service.lines g.S.Service.refusal_line g.L.Sink.holds (Err (Stream fault.Write)) so_far.7 _ _ _ _ _ _ _ all done.3;
       failed = (c.in-Err-Write.ensures.write (ap Err c.in-Err-Write.field-0-is)).1 ∙ c.loop-turn.invariant.log_count;
     }
 
@@ -295,7 +296,7 @@ returns-in-Err-Log-clause-logged g c =
       out = so_far.1 ++ done.0;
       read = Consumes-trans _ _ _ _ _ so_far.3 came.1;
       written = Appends-trans _ _ _ _ _ so_far.4 done.1;
-      noted = noted_after g.S.Service.lines g.S.Service.refusal_line g.L.Sink.holds (Err fault.Log) so_far.7 _ _ _ _ _ _ _ all done.3;
+      noted = noted_after g.S.Service.lines g.S.Service.refusal_line g.L.Sink.holds (Err Log) so_far.7 _ _ _ _ _ _ _ all done.3;
       failed = FailsAtLast-from g.L.Sink.failed g.L.Sink.fails c.loop-turn.invariant.log_count (c.in-Err-Log.ensures.log (ap Err c.in-Err-Log.field-0-is)).0;
     }
 

@@ -1,6 +1,7 @@
 use Rattle.std.proofs.Common.{[], Err, refl}
 use Rattle.std.proofs.KnownBytes.{Appends-nil, Consumes-nil}
 use Rattle.http_streams.specs.Logs.{notes}
+use Rattle.http_streams.specs.declared.serve.LoggedFault.TheVariants.{Stream}
 use Rattle.http_streams.specs.declared.serve.StreamFault.TheVariants.{NoMemory}
 use Rattle.http_streams.proofs.LogLemmas.{noted_so_far}
 use Rattle.http_streams.proofs.StreamLemmas.{AnswersAllRequests-from, Serves-none}
@@ -26,7 +27,7 @@ returns-in_default-clause-logged g c = record {
   out = [];
   read = Consumes-nil _;
   written = Appends-nil _;
-  noted = noted_so_far g.S.Service.lines g.S.Service.refusal_line g.L.Sink.holds (Err NoMemory) 0 _ _ _ _ _
+  noted = noted_so_far g.S.Service.lines g.S.Service.refusal_line g.L.Sink.holds (Err (Stream NoMemory)) 0 _ _ _ _ _
       (Serves-none (notes g.S.Service.lines g.L.Sink.holds) _ []) (refl, refl);
   failed = refl;
 }

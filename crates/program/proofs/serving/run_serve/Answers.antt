@@ -9,7 +9,7 @@ use Rattle.program.proofs.EventLemmas.{reads_on, reads_none, named_on, named_non
 use Rattle.program.proofs.serving.run_serve.Goals as goal
 
 -- what is left to do once the schema is read
-abbrev over_schema : {R W G : Type 0} → Source R → Sink W → Sink G → ServeOptions → List ℕ → Course (Link R W)
+abbrev over_schema : {R W G : Type 0} → Source R → Sink W → Sink G → ServeOptions → List ℕ → Course (Link R W) G
 over_schema reader writer log options schema =
     ReadsIfNamed (option_map (λ s. s.now) options.state) (IsServedFrom reader writer log options schema)
 

@@ -5,15 +5,15 @@ use Rattle.state_exchanges.specs.http_streams.declared.devices.Source.{Ghosts as
 use Rattle.state_exchanges.specs.http_streams.declared.devices.Sink.{Ghosts as Sink}
 use Rattle.site_loading.specs.site_steps.SiteViews.{SiteView}
 use Rattle.program.specs.declared.device.Link.{Link}
-use Rattle.program.specs.Courses.{Course, Listens, OpensIfNamed}
-use Rattle.program.specs.Serving.{IsServedListening, own_stamps_line}
+use Rattle.program.specs.Courses.{ClosesAfter, Course, OpensIfNamed}
+use Rattle.program.specs.Serving.{IsServedIfListening, own_stamps_line}
 use Rattle.program.proofs.EventLemmas.{none_opened, not_opened, opened_on, warned_on}
 use Rattle.program.proofs.serving.serve_initial_site.Goals as goal
 
 -- what is left to do once the log is opened
-abbrev over_log : {R W G : Type 0} → Source R → Sink W → Sink G → ServeOptions → SiteView → Option G → Course (Link R W)
+abbrev over_log : {R W G : Type 0} → Source R → Sink W → Sink G → ServeOptions → SiteView → Option G → Course (Link R W) G
 over_log reader writer log options site opened =
-    Listens options.listen.now options.idle (IsServedListening reader writer log options (record { site = site; log = opened }))
+    ClosesAfter (IsServedIfListening reader writer log options (record { site = site; log = opened }))
 
 pub returns-in-Ok : goal.returns-in-Ok
 returns-in-Ok g c =
@@ -21,9 +21,9 @@ returns-in-Ok g c =
     let named = option_map (λ s. s.now) options.log in
     let goes_on = over_log g.H.Reader.Source g.H.Writer.Sink g.H.Log.Sink options c.args.site in
     warned_on g.H.Host.does _ _ _ _ (own_stamps_line options.site) (OpensIfNamed named goes_on)
-    (exit_status c.serve_listening.result) c.warn_of_own_stamps.ensures (
-    opened_on g.H.Host.does _ _ _ named c.in-Some.name.now c.in-Ok.log goes_on (exit_status c.serve_listening.result)
-    (ap (option_map (λ s. s.now)) c.in-Some.is) c.in-Ok.ensures c.serve_listening.ensures)
+    (exit_status c.serve_and_close.result) c.warn_of_own_stamps.ensures (
+    opened_on g.H.Host.does _ _ _ named c.in-Some.name.now c.in-Ok.log goes_on (exit_status c.serve_and_close.result)
+    (ap (option_map (λ s. s.now)) c.in-Some.is) c.in-Ok.ensures c.serve_and_close.ensures)
 
 pub returns-in-Err : goal.returns-in-Err
 returns-in-Err g c =
@@ -41,6 +41,6 @@ returns-in-None g c =
     let named = option_map (λ s. s.now) options.log in
     let goes_on = over_log g.H.Reader.Source g.H.Writer.Sink g.H.Log.Sink options c.args.site in
     warned_on g.H.Host.does _ _ _ _ (own_stamps_line options.site) (OpensIfNamed named goes_on)
-    (exit_status c.serve_listening-in-None.result) c.warn_of_own_stamps.ensures (
-    none_opened g.H.Host.does _ _ named goes_on (exit_status c.serve_listening-in-None.result)
-    (ap (option_map (λ s. s.now)) c.in-None.is) c.serve_listening-in-None.ensures)
+    (exit_status c.serve_and_close-in-None.result) c.warn_of_own_stamps.ensures (
+    none_opened g.H.Host.does _ _ named goes_on (exit_status c.serve_and_close-in-None.result)
+    (ap (option_map (λ s. s.now)) c.in-None.is) c.serve_and_close-in-None.ensures)

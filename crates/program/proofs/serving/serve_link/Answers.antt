@@ -1,4 +1,5 @@
-use Rattle.std.proofs.Common.{refl}
+use Rattle.std.proofs.Common.{Err, Ok, refl}
+use Rattle.state_exchanges.specs.http_streams.declared.serve.LoggedFault.TheVariants.{Stream}
 use Rattle.program.proofs.ServeLemmas.{logged_over, unlogged_over}
 use Rattle.program.proofs.serving.serve_link.Goals as goal
 
@@ -9,8 +10,15 @@ returns-in-Some g c = (
       c.serve_logged.ensures.logged,
 )
 
-pub returns-in-None : goal.returns-in-None
-returns-in-None g c = (
-  c.serve.ensures.served,
-  unlogged_over g.H.Reader.Source g.H.Writer.Sink g.H.Log.Sink _ _ _ _ c.serve.result c.in-None.is c.in-None.is c.serve.ensures.unlogged,
+pub returns-in-Ok : goal.returns-in-Ok
+returns-in-Ok g c = (
+  c.in-Ok.ensures,
+  unlogged_over g.H.Reader.Source g.H.Writer.Sink g.H.Log.Sink _ _ _ _ (Ok tt) c.in-None.is c.in-None.is (λ e. absurd cc),
+)
+
+pub returns-in-Err : goal.returns-in-Err
+returns-in-Err g c = (
+  c.in-Err.ensures,
+  unlogged_over g.H.Reader.Source g.H.Writer.Sink g.H.Log.Sink _ _ _ _ (Err (Stream c.in-Err.fault)) c.in-None.is c.in-None.is
+      (λ e. absurd cc),
 )
