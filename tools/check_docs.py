@@ -21,6 +21,7 @@
 - If a program's stdout has lines of a case and its outcome, stdin has these lines without the outcomes.
 - Each name of docs/where.md exists (tools/where_it_stands.py).
 - The table of docs/performance.md has the rows of `bench/measure.py page`, in its order.
+- The man page and the completions of examples/shell are what tools/command_line.py makes of the program's own table.
 - Each command of a document that only reads the sources, as `tools/definitions.py reading ..`, ends with status 0.
 Standard library alone.
 """
@@ -33,6 +34,7 @@ import sys
 
 TOP = os.path.dirname(os.path.dirname(os.path.abspath(__file__)))
 sys.path.insert(0, f"{TOP}/tools")
+import command_line  # noqa: E402
 import made_docs  # noqa: E402
 import where_it_stands  # noqa: E402
 
@@ -255,7 +257,7 @@ def about_commands():
 def main():
     argparse.ArgumentParser(description=__doc__, formatter_class=argparse.RawDescriptionHelpFormatter).parse_args()
     found = [*about_layers(), *about_crates(), *about_paths(), *about_numbers(), *about_lines(), *about_long_lines(), *about_codes(), *about_code_table()]
-    found += [*about_cases(), *made_docs.stale(), *about_reading(), *where_it_stands.faults(), *about_performance(), *about_commands()]
+    found += [*about_cases(), *made_docs.stale(), *about_reading(), *where_it_stands.faults(), *command_line.stale(), *about_performance(), *about_commands()]
     print("\n".join(found) or "documents: all checks passed")
     return 1 if found else 0
 
