@@ -11,12 +11,15 @@ The script copies the crates below the program, without their must-fail edits, i
 proves each from nothing, in parallel on all processors, one job each, which costs the least processor time. Both
 compilers build the program, and its output for its stored arguments is compared with the stored output. The built
 program goes to crates/PROGRAM/out, or to bench/out if it measures. --if-needed does nothing if the program was built from
-these sources; --is-built reports only that, by its status. Standard library alone.
+these sources; --is-built reports only that, by its status. A run that is ended leaves nothing behind: its folder goes, and
+what it started ends. Standard library alone.
 """
 import argparse
+import contextlib
 import hashlib
 import os
 import shutil
+import signal
 import subprocess
 import sys
 import tempfile
@@ -96,20 +99,20 @@ def files_below(path):
         yield from (f"{folder}/{name}" for name in sorted(names))
 
 
-def files_of(program, crates):
+def files_of(program, crates, parts=PARTS):
     """Yields each file that the build reads, from the top of the repository, in order."""
     for crate in sorted(crates):
-        for part in PARTS:
+        for part in parts:
             for path in files_below(f"{TOP}/{program.folder_of(crate)}/{part}"):
                 yield os.path.relpath(path, TOP)
 
 
-def sum_of(program, crates):
+def sum_of(program, crates, parts=PARTS):
     """Returns a checksum over the sources of the program: its crates' lines and files, and the toolchain."""
     found = hashlib.sha256(repr(crates).encode())
     toolchain = subprocess.run(["rt", "version"], capture_output=True, check=False).stdout
     found.update(toolchain)
-    for path in files_of(program, crates):
+    for path in files_of(program, crates, parts):
         with open(f"{TOP}/{path}", "rb") as file:
             found.update(repr((path, file.read())).encode())
     return found.hexdigest()
@@ -128,6 +131,35 @@ def lay_out(program, crates, room):
 
 def minutes(seconds):
     return f"{int(seconds) // 60}:{int(seconds) % 60:02}"
+
+
+ENDING = (signal.SIGTERM, signal.SIGHUP, signal.SIGINT)
+
+
+def end_by_exit():
+    """Has the signals that end a run raise SystemExit, once, so that folders are removed."""
+
+    def leave(number, _):
+        for it in ENDING:
+            signal.signal(it, signal.SIG_IGN)
+        sys.exit(128 + number)
+
+    for it in ENDING:
+        signal.signal(it, leave)
+
+
+@contextlib.contextmanager
+def ended_with_us(words, **how):
+    """Starts a command in a group of its own. If the block is left before it ended, the group is ended: asked, then by force."""
+    with subprocess.Popen(words, start_new_session=True, **how) as process:
+        try:
+            yield process
+        finally:
+            if process.poll() is None:
+                for number, seconds in ((signal.SIGTERM, 10), (signal.SIGKILL, None)):
+                    with contextlib.suppress(ProcessLookupError, subprocess.TimeoutExpired):
+                        os.killpg(process.pid, number)
+                        process.wait(seconds)
 
 
 class Progress:
@@ -164,15 +196,19 @@ def prove(crates, room, jobs):
     progress, said = Progress(crates, room), []
     telling = threading.Thread(target=progress.run, args=(30 if sys.stderr.isatty() else 120,), daemon=True)
     telling.start()
-    environment = {**os.environ, "RT_JOBS": str(jobs)}
+    # What the gate leaves goes with the folder. It runs programs as nobody, who has to reach theirs.
+    os.mkdir(f"{room}/tmp")
+    os.chmod(room, 0o711)
+    environment = {**os.environ, "RT_JOBS": str(jobs), "TMPDIR": f"{room}/tmp"}
     how = {"stdout": subprocess.PIPE, "stderr": subprocess.STDOUT, "text": True, "errors": "replace"}
-    with subprocess.Popen(["rt", "ci"], cwd=room, env=environment, **how) as gate:
+    with ended_with_us(["rt", "ci"], cwd=room, env=environment, **how) as gate:
         for line in gate.stdout:
             said.append(line)
             progress.saw(line)
+        status = gate.wait()
     progress.over.set()
     telling.join()
-    return gate.returncode, said
+    return status, said
 
 
 def is_built(program, wanted):
@@ -229,6 +265,7 @@ def parser():
 
 def main():
     words = parser().parse_args()
+    end_by_exit()
     program = Program(words.program)
     crates = crates_below(program)
     if not crates:
