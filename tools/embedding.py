@@ -120,7 +120,7 @@ def of_python():
     kinds = {"_SLOT": ["slot"], "_BYTES": ["bytes", "length"], "_OUT": ["out", "length"]}
     results = {"ctypes.c_uint32": "u32", "ctypes.c_bool": "bool", "_CallResult": "result"}
     found = []
-    for name, result, given in re.findall(r'(?m)^    "(\w+)": \(([\w.]+), \[([^\]]*)\]\),$', read("embedding/python/weirbowl.py")):
+    for name, result, given in re.findall(r'(?m)^    "(\w+)": \(([\w.]+), \[([^\]]*)\]\),$', read("embedding/python/weirbowl/__init__.py")):
         found.append((f"weirbowl_{name}", results.get(result, result), [kind for it in re.findall(r"\*(\w+)", given) for kind in kinds[it]]))
     return found
 
@@ -142,14 +142,14 @@ def about_declarations(count):
     rattle = [fields(read(f"crates/weirbowl/src/{it}.rt"), (r"#\[repr\(C\)\].*?struct \w+ \{(.*?)\n\}", r"(?m)^    pub (\w+):"))[0] for it in ("slot", "call_result")]
     header = fields(read("embedding/include/weirbowl.h"), (r"typedef struct \w+ \{(.*?)\}", r"(\w+);"))
     rust = fields(read("embedding/rust/src/calls.rs"), (r"#\[repr\(C\)\].*?struct \w+ \{(.*?)\n\}", r"(\w+):"))
-    python = fields(read("embedding/python/weirbowl.py"), (r"_fields_ = \[(.*?)\]", r'"(\w+)"'))
+    python = fields(read("embedding/python/weirbowl/__init__.py"), (r"_fields_ = \[(.*?)\]", r'"(\w+)"'))
     for title, found in (("the crate", rattle), ("the header", header), ("embedding/rust", rust), ("embedding/python", python)):
         count.check(f"{title}: the fields of both structs", found == shapes, f"expected {shapes}, got {found}")
     # a status of HTTP is no code of the library, which has the code 2 for itself
     found = map(int, re.findall(r"(?m)^\| (\d+) \|", read("docs/codes.md")))
     codes = {it for it in found if it == 1 or 10 <= it < 100} | {2}
     rust = {int(a): b for a, b in re.findall(r'(?m)^    \((\d+), "(.*)"\),$', read("embedding/rust/src/error.rs"))}
-    python = {int(a): b for a, b in re.findall(r'(?m)^    (\d+): "(.*)",$', read("embedding/python/weirbowl.py"))}
+    python = {int(a): b for a, b in re.findall(r'(?m)^    (\d+): "(.*)",$', read("embedding/python/weirbowl/__init__.py"))}
     count.check("the codes are those of docs/codes.md", set(rust) == codes, differing_sets(codes, set(rust)))
     count.check("Rust and Python have the same sentences", rust == python, differing_sets(set(rust.items()), set(python.items())))
 

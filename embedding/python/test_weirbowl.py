@@ -1,10 +1,12 @@
-"""Tests of weirbowl.py: `python3 -m unittest`, with WEIRBOWL_SO if the library is not in embedding/out."""
+"""Tests of the package weirbowl: `python3 -m unittest`, with WEIRBOWL_SO if the library is not in embedding/out."""
 import copy
 import json
+import os
 import pickle
 import threading
 import unittest
 
+import weirbowl
 from weirbowl import Answer, ErringPolicy, Error, Site, Stamp, Verdict, check, decide, decide_under, request
 
 SCHEMA = {"": {"entityTypes": {"User": {"memberOfTypes": ["Team"]}, "Team": {}, "Photo": {}},
@@ -101,6 +103,11 @@ class Answers(unittest.TestCase):
         self.assertTrue(Answer("Allow", ["p"], [], []))
         for other in ("Deny", "allow", ""):
             self.assertFalse(Answer(other, ["p"], [], []))
+
+
+class Package(unittest.TestCase):
+    def test_is_typed(self):
+        self.assertTrue(os.path.exists(f"{os.path.dirname(weirbowl.__file__)}/py.typed"))
 
 
 class Texts(unittest.TestCase):

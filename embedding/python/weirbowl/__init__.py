@@ -10,7 +10,7 @@ Sites that applied the same updates give equal answers. JSON is taken as bytes, 
 A Site stays in the process and on the thread that opened it; a call from another raises RuntimeError. Calls keep the
 interpreter's lock.
 A call needs a thread with a stack of 4 MiB or more (threading.stack_size), since an expression may be 1,000 nodes high.
-The library is found beside this file, in embedding/out, or where WEIRBOWL_SO says. Standard library alone.
+The library is found in this folder, in embedding/out, or where WEIRBOWL_SO says. Standard library alone.
 """
 from __future__ import annotations
 
@@ -217,7 +217,7 @@ def _load() -> dict[str, Any]:
     """Returns the functions. PyDLL keeps the interpreter's lock during a call, so that no other thread is inside one."""
     here = os.path.dirname(os.path.abspath(__file__))
     named = os.environ.get("WEIRBOWL_SO")
-    places = [named] if named else [f"{here}/libweirbowl.so", f"{here}/../out/libweirbowl.so"]
+    places = [named] if named else [f"{here}/libweirbowl.so", f"{here}/../../out/libweirbowl.so"]
     path = next((it for it in places if os.path.exists(it)), None)
     if path is None:
         raise ImportError(f"expected libweirbowl.so at {' or '.join(places)}; tools/embedding.py builds it, WEIRBOWL_SO names it")
