@@ -4,11 +4,13 @@
     tools/embedding.py [--built] [PROGRAM]
 
 1. The header, embedding/rust and embedding/python declare the exports of the crate: the same names in the same order, with the same kinds of
-   parameters and results; and both have the codes of docs/codes.md, with the same sentences.
+   parameters and results. The codes are those of docs/codes.md, in Rust and C with its names, in Rust and Python with the same sentences.
 2. The archive is built over the libraries that the gate left in crates/NAME/out/rlib, else by `rt lib`, which proves them all first; with --built
    that in embedding/out is taken as it is. embedding/out/libweirbowl.a is that archive with the three functions of the heap that it calls, and
-   libweirbowl.so shows its exports alone. Of the C library they need ALLOWED, and no more.
-3. C: embedding/c/test.c, first.c, and refused.c, which fails each allocation in turn; the first two under valgrind, if it is there.
+   libweirbowl.so.1, with its name of development libweirbowl.so, shows its exports alone. Of the C library they need ALLOWED, and no more.
+   embedding/out/weirbowl.pc is for pkg-config.
+3. C: embedding/c/replies.c, which reads replies without the library; test.c, first.c, and refused.c, which fails each allocation in turn; test.c
+   and first.c under valgrind, if it is there; first.c with the shared library by the words of pkg-config, if that is there.
 4. Rust: `cargo test --offline` and the example. 5. Python: the tests and the example.
 6. 10,000 random calls, the same at a site of the library and at one that PROGRAM serves, have the same status and body; then random texts for
    `decide` and `check`, the same through both.
@@ -34,6 +36,17 @@ HERE, OUT = f"{TOP}/embedding", f"{TOP}/embedding/out"
 SITES, TEXTS = 10_000, 200
 # what the library may call of the C library
 ALLOWED = {"malloc", "realloc", "free", "memcpy", "memmove", "memset"}
+# the shared library's name at run time: the number changes if a program that was linked before would not run
+SONAME = "libweirbowl.so.1"
+PC = """libdir={out}
+includedir={include}
+
+Name: weirbowl
+Description: A replicated store of Cedar policies and entities in your process, with proved decisions
+Version: 1.0.0
+Libs: -L${{libdir}} -lweirbowl
+Cflags: -I${{includedir}}
+"""
 
 
 def read(path):
@@ -148,10 +161,35 @@ def about_declarations(count):
     # a status of HTTP is no code of the library, which has the code 2 for itself
     found = map(int, re.findall(r"(?m)^\| (\d+) \|", read("docs/codes.md")))
     codes = {it for it in found if it == 1 or 10 <= it < 100} | {2}
-    rust = {int(a): b for a, b in re.findall(r'(?m)^    \((\d+), "(.*)"\),$', read("embedding/rust/src/error.rs"))}
+    rust = {int(b): c for _, b, c in of_rust_codes()}
     python = {int(a): b for a, b in re.findall(r'(?m)^    (\d+): "(.*)",$', read("embedding/python/weirbowl/__init__.py"))}
     count.check("the codes are those of docs/codes.md", set(rust) == codes, differing_sets(codes, set(rust)))
     count.check("Rust and Python have the same sentences", rust == python, differing_sets(set(rust.items()), set(python.items())))
+    names = {(code, "".join(it.capitalize() for it in words)) for code, words in named_codes()}
+    found = {(int(code), name) for name, code, _ in of_rust_codes()}
+    count.check("Rust has the names of docs/codes.md", found == names, differing_sets(names, found))
+    names = {(code, "_".join(["weirbowl", *words]).upper()) for code, words in named_codes()}
+    # the library alone has the last two
+    found = {(int(code), name) for name, code in re.findall(r"\b(WEIRBOWL_\w+) = (\d+)", read("embedding/include/weirbowl.h").partition("weirbowl_code {")[2])}
+    names |= {(0, "WEIRBOWL_NO_CODE"), (3, "WEIRBOWL_ALREADY_OPEN")}
+    count.check("the header has the names of docs/codes.md", found == names, differing_sets(names, found))
+
+
+# what the names of the codes of a section of docs/codes.md begin with, since two sections have some names in common
+SECTIONS = {"Codes": [], "Policies": ["policy"], "Schemas": ["schema"], "Entities and requests": ["entity"], "Validation of policies": ["validation"],
+            "Messages between sites": ["message"], "Commands at a site": ["site"]}
+
+
+def named_codes():
+    """Yields each code of the library, with the words of its name by docs/codes.md."""
+    for part in re.split(r"(?m)^#+ ", read("docs/codes.md")):
+        begins = SECTIONS.get(part.partition("\n")[0])
+        for code, name in re.findall(r"(?m)^\| (\d+) \| ([^|]+?) \|", part) if begins is not None else ():
+            yield int(code), [*begins, *re.findall(r"\w+", "bad site name" if code == "2" else name)]
+
+
+def of_rust_codes():
+    return re.findall(r'(?m)^    (\w+) = (\d+): "(.*)",$', read("embedding/rust/src/error.rs"))
 
 
 # ---- the library
@@ -207,15 +245,19 @@ def symbols(path, *flags):
 def link(count, archive):
     """Makes what programs link, and looks at its symbols."""
     os.makedirs(OUT, exist_ok=True)
-    whole, shared, script = f"{OUT}/libweirbowl.a", f"{OUT}/libweirbowl.so", f"{OUT}/exports.map"
-    if os.path.exists(whole):
-        os.remove(whole)
+    whole, shared, script = f"{OUT}/libweirbowl.a", f"{OUT}/{SONAME}", f"{OUT}/exports.map"
+    for path in (whole, f"{OUT}/libweirbowl.so"):
+        if os.path.lexists(path):
+            os.remove(path)
     lines = ["CREATE " + whole, "ADDLIB " + archive, f"ADDLIB {kit()}/c/liblibc_c.a", "SAVE", "END"]
     subprocess.run(["ar", "-M"], input="\n".join(lines) + "\n", text=True, check=True)
     with open(script, "w", encoding="utf-8") as file:
         file.write("WEIRBOWL_1 { global: weirbowl_*; local: *; };\n")
     cc = ["cc", "-shared", "-o", shared, "-Wl,--whole-archive", whole, "-Wl,--no-whole-archive", f"-Wl,--version-script={script}"]
-    subprocess.run([*cc, "-Wl,-soname,libweirbowl.so", "-Wl,--gc-sections", "-Wl,-z,defs"], check=True)
+    subprocess.run([*cc, f"-Wl,-soname,{SONAME}", "-Wl,--gc-sections", "-Wl,-z,defs"], check=True)
+    os.symlink(SONAME, f"{OUT}/libweirbowl.so")
+    with open(f"{OUT}/weirbowl.pc", "w", encoding="utf-8") as file:
+        file.write(PC.format(out=OUT, include=f"{HERE}/include"))
     names = {it[0] for it in exports()}
     shown = {it.partition("@")[0] for it in symbols(shared, "-D", "--defined-only")} - {"WEIRBOWL_1"}
     count.check("the shared library shows the exports alone", shown == names, differing_sets(names, shown))
@@ -230,9 +272,24 @@ def link(count, archive):
 
 FIRST_C = """put: 200 {"count":1,"impossible":false,"site":"one"}
 decide at one: 200 {"cycle":[],"decision":"Allow","errors":[],"reason":["ann"]}
+allowed
 merge: 200 {"taken":1}
 decide at two: 200 {"cycle":[],"decision":"Allow","errors":[],"reason":["ann"]}
+allowed
 """
+
+
+def try_pkg_config(count):
+    """Links the example with the shared library, as pkg-config says, and runs it."""
+    if not shutil.which("pkg-config"):
+        count.skip("pkg-config", "not installed")
+        return
+    where = {**os.environ, "PKG_CONFIG_PATH": OUT}
+    asked = subprocess.run(["pkg-config", "--cflags", "--libs", "weirbowl"], env=where, capture_output=True, text=True)
+    if count.check("pkg-config", asked.returncode == 0, asked.stderr):
+        words = ["cc", "-std=gnu11", f"{HERE}/c/first.c", *asked.stdout.split(), "-o", f"{OUT}/first_shared"]
+        if count.run("C: first.c compiles by pkg-config", words):
+            count.run("C: the example with the shared library", [f"{OUT}/first_shared"], FIRST_C, LD_LIBRARY_PATH=OUT)
 
 
 def try_c(count):
@@ -240,6 +297,8 @@ def try_c(count):
         words = ["cc", "-std=gnu11", "-O2", "-Wall", "-Wextra", "-Werror", f"-I{HERE}/include", "-o", f"{OUT}/{name}", f"{HERE}/c/{name}.c"]
         return count.run(f"C: {name}.c compiles", [*words, f"{OUT}/libweirbowl.a", *flags])
 
+    if build("replies"):
+        count.run("C: replies, read without the library", [f"{OUT}/replies"])
     if build("test"):
         count.run("C: the calls", [f"{OUT}/test"])
     if build("first"):
@@ -252,6 +311,7 @@ def try_c(count):
             count.run(f"C: {name} under valgrind", [*words, f"{OUT}/{name}"])
     else:
         count.skip("valgrind", "not installed")
+    try_pkg_config(count)
     if shutil.which("c++"):
         words = ["c++", "-fsyntax-only", "-Wall", "-Wextra", "-Werror", "-x", "c++", f"{HERE}/include/weirbowl.h"]
         count.run("C++: the header", words)

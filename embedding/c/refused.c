@@ -48,7 +48,7 @@ static uint8_t out[4096], message[4096];
 
 static void expect(bool holds, int line) {
     if (holds) return;
-    printf("refused.c:%d: not as without a failure: %s\n", line, out);
+    printf("refused.c:%d: not as without a failure: %.*s\n", line, (int)sizeof out, out);
     exit(1);
 }
 #define EXPECT(condition) expect(condition, __LINE__)
@@ -66,25 +66,26 @@ static bool run(long number) {
     AGAIN(r, weirbowl_put_entity(&one, BYTES(ANN_OF_T), out, sizeof out));
     EXPECT(r.status == 200 && !memcmp(out, "{\"count\":2,", 11));
     AGAIN(r, weirbowl_authorize(&one, BYTES(REQUEST), out, sizeof out));
-    EXPECT(r.status == 200 && strstr((char *)out, "Allow"));
+    EXPECT(weirbowl_decision_of(r, out, sizeof out) == WEIRBOWL_ALLOW);
     AGAIN(r, weirbowl_get_policy(&one, BYTES("p"), out, sizeof out));
     EXPECT(r.status == 200);
     AGAIN(r, weirbowl_summary(&two, message, sizeof message));
     size_t length = r.length;
+    EXPECT(weirbowl_fits(r, sizeof message));
     AGAIN(r, weirbowl_delta(&one, message, length, out, sizeof out));
     EXPECT(r.status == 200 && r.length <= sizeof message);
     memcpy(message, out, length = r.length);
     AGAIN(r, weirbowl_merge(&two, message, length, out, sizeof out));
     EXPECT(r.status == 200 && !memcmp(out, "{\"taken\":2}", 11));
     AGAIN(r, weirbowl_authorize(&two, BYTES(REQUEST), out, sizeof out));
-    EXPECT(r.status == 200 && strstr((char *)out, "Allow"));
+    EXPECT(weirbowl_decision_of(r, out, sizeof out) == WEIRBOWL_ALLOW);
     AGAIN(r, weirbowl_delete_policy(&two, BYTES("p"), out, sizeof out));
     AGAIN(r, weirbowl_state(&two, out, sizeof out));
     EXPECT(r.status == 200);
     AGAIN(r, weirbowl_decide(BYTES(TEAM), BYTES("[]"), BYTES(REQUEST), out, sizeof out));
-    EXPECT(r.status == 200 && strstr((char *)out, "Deny"));
+    EXPECT(weirbowl_decision_of(r, out, sizeof out) == WEIRBOWL_DENY);
     AGAIN(r, weirbowl_decide_under(BYTES(SCHEMA), BYTES(TEAM), BYTES("[]"), BYTES(REQUEST), out, sizeof out));
-    EXPECT(r.status == 200 && strstr((char *)out, "Deny"));
+    EXPECT(weirbowl_decision_of(r, out, sizeof out) == WEIRBOWL_DENY);
     AGAIN(r, weirbowl_check(BYTES(SCHEMA), BYTES("permit(principal, action, resource) when { 1 };"), out, sizeof out));
     EXPECT(r.status == 422);
     EXPECT(weirbowl_close(&one) && weirbowl_close(&two));

@@ -30,7 +30,7 @@ static uint8_t out[1 << 20], other[1 << 20];
 
 static bool is(weirbowl_result r, uint32_t status, const char *body) {
     bool same = r.status == status && r.length == strlen(body) && memcmp(out, body, r.length) == 0;
-    if (!same) printf("  got %u %.*s\n", r.status, (int)r.length, out);
+    if (!same) printf("  got %u %.*s\n", r.status, weirbowl_fits(r, sizeof out) ? (int)r.length : 0, out);
     return same;
 }
 
@@ -42,8 +42,9 @@ static void decides_and_changes(void) {
     EXPECT(is(weirbowl_put_policy(&site, BYTES("p"), BYTES(TEAM), out, sizeof out), 200,
               "{\"count\":1,\"impossible\":false,\"site\":\"a\"}"));
     EXPECT(is(weirbowl_put_entity(&site, BYTES(ANN_OF_T), out, sizeof out), 200, "{\"count\":2,\"site\":\"a\"}"));
-    EXPECT(is(weirbowl_authorize(&site, BYTES(REQUEST), out, sizeof out), 200,
-              "{\"cycle\":[],\"decision\":\"Allow\",\"errors\":[],\"reason\":[\"p\"]}"));
+    weirbowl_result r = weirbowl_authorize(&site, BYTES(REQUEST), out, sizeof out);
+    EXPECT(is(r, 200, "{\"cycle\":[],\"decision\":\"Allow\",\"errors\":[],\"reason\":[\"p\"]}"));
+    EXPECT(weirbowl_decision_of(r, out, sizeof out) == WEIRBOWL_ALLOW);
     EXPECT(is(weirbowl_get_policy(&site, BYTES("p"), out, sizeof out), 200,
               "{\"count\":1,\"site\":\"a\",\"text\":\"permit(principal in Team::\\\"t\\\", action, resource);\"}"));
     EXPECT(is(weirbowl_delete_entity(&site, BYTES("{\"type\":\"User\",\"id\":\"ann\"}"), out, sizeof out), 200,
@@ -51,8 +52,9 @@ static void decides_and_changes(void) {
     EXPECT(is(weirbowl_authorize(&site, BYTES(REQUEST), out, sizeof out), 200,
               "{\"cycle\":[],\"decision\":\"Deny\",\"errors\":[],\"reason\":[]}"));
     EXPECT(is(weirbowl_delete_policy(&site, BYTES("p"), out, sizeof out), 200, "{\"count\":4,\"site\":\"a\"}"));
-    EXPECT(is(weirbowl_get_policy(&site, BYTES("p"), out, sizeof out), 404,
-              "{\"error\":{\"code\":60,\"place\":null,\"within\":null}}"));
+    r = weirbowl_get_policy(&site, BYTES("p"), out, sizeof out);
+    EXPECT(is(r, 404, "{\"error\":{\"code\":60,\"place\":null,\"within\":null}}"));
+    EXPECT(weirbowl_code_of(r, out, sizeof out) == WEIRBOWL_SITE_NOT_THERE);
     EXPECT(weirbowl_close(&site));
 }
 
@@ -63,6 +65,7 @@ static void exchanges(void) {
     weirbowl_put_policy(&two, BYTES("q"), BYTES(TEAM), out, sizeof out);
     weirbowl_result has = weirbowl_summary(&two, other, sizeof other);
     weirbowl_result news = weirbowl_delta(&one, other, has.length, out, sizeof out);
+    EXPECT(weirbowl_fits(has, sizeof other) && weirbowl_fits(news, sizeof out));
     memcpy(other, out, news.length);
     EXPECT(is(weirbowl_merge(&two, other, news.length, out, sizeof out), 200, "{\"taken\":1}"));
     weirbowl_result whole = weirbowl_state(&two, other, sizeof other);
@@ -128,6 +131,7 @@ static void short_memory(void) {
         weirbowl_result r = weirbowl_authorize(&site, BYTES(REQUEST), out, room);
         size_t written = r.length <= room ? r.length : 0;
         EXPECT(r.status == 200 && r.length == 54 && out[written] == 7 && (written == 0 || out[written - 1] == '}'));
+        EXPECT(weirbowl_decision_of(r, out, room) == (written ? WEIRBOWL_DENY : WEIRBOWL_UNDECIDED));
     }
     EXPECT(is(weirbowl_last_body(&site, out, sizeof out), 200,
               "{\"cycle\":[],\"decision\":\"Deny\",\"errors\":[],\"reason\":[]}"));

@@ -24,6 +24,7 @@
 #include <stdbool.h>
 #include <stddef.h>
 #include <stdint.h>
+#include <string.h>
 
 #ifdef __cplusplus
 extern "C" {
@@ -44,6 +45,94 @@ typedef struct weirbowl_result {
     uint32_t status;
     size_t length;
 } weirbowl_result;
+
+/* A decision. Everything but WEIRBOWL_ALLOW denies. */
+typedef enum weirbowl_decision {
+    WEIRBOWL_UNDECIDED = 0,
+    WEIRBOWL_ALLOW = 1,
+    WEIRBOWL_DENY = 2
+} weirbowl_decision;
+
+/* The codes of errors, by name: docs/codes.md. */
+typedef enum weirbowl_code {
+    WEIRBOWL_NO_CODE = 0,
+    WEIRBOWL_OUT_OF_MEMORY = 1,
+    WEIRBOWL_BAD_SITE_NAME = 2,
+    WEIRBOWL_ALREADY_OPEN = 3,
+    WEIRBOWL_POLICY_BAD_TOKEN = 10,
+    WEIRBOWL_POLICY_UNEXPECTED = 11,
+    WEIRBOWL_POLICY_NUMBER_RANGE = 12,
+    WEIRBOWL_POLICY_UNKNOWN_CALL = 13,
+    WEIRBOWL_POLICY_ARITY = 14,
+    WEIRBOWL_POLICY_REPEATED_KEY = 15,
+    WEIRBOWL_POLICY_SLOT = 16,
+    WEIRBOWL_POLICY_TOO_DEEP = 17,
+    WEIRBOWL_POLICY_TOO_LONG = 18,
+    WEIRBOWL_POLICY_BAD_ID = 19,
+    WEIRBOWL_SCHEMA_NOT_JSON = 20,
+    WEIRBOWL_SCHEMA_BAD_SHAPE = 21,
+    WEIRBOWL_SCHEMA_UNKNOWN_NAME = 22,
+    WEIRBOWL_SCHEMA_TYPE_CYCLE = 23,
+    WEIRBOWL_SCHEMA_ACTION_CYCLE = 24,
+    WEIRBOWL_SCHEMA_TYPE_TOO_LARGE = 25,
+    WEIRBOWL_ENTITY_BAD_SHAPE = 30,
+    WEIRBOWL_ENTITY_UNKNOWN_TYPE = 31,
+    WEIRBOWL_ENTITY_ACTION_ENTITY = 32,
+    WEIRBOWL_ENTITY_UNDECLARED_ATTRIBUTE = 33,
+    WEIRBOWL_ENTITY_MISSING_ATTRIBUTE = 34,
+    WEIRBOWL_ENTITY_WRONG_TYPE = 35,
+    WEIRBOWL_ENTITY_BAD_PARENT = 36,
+    WEIRBOWL_ENTITY_SELF_PARENT = 37,
+    WEIRBOWL_ENTITY_TAGS = 38,
+    WEIRBOWL_ENTITY_NOT_APPLICABLE = 39,
+    WEIRBOWL_VALIDATION_UNKNOWN_ENTITY_TYPE = 40,
+    WEIRBOWL_VALIDATION_UNKNOWN_ACTION = 41,
+    WEIRBOWL_VALIDATION_WRONG_TYPE = 42,
+    WEIRBOWL_VALIDATION_NO_COMMON_TYPE = 43,
+    WEIRBOWL_VALIDATION_ATTRIBUTE = 44,
+    WEIRBOWL_VALIDATION_EMPTY_SET = 45,
+    WEIRBOWL_VALIDATION_EXTENSION_TEXT = 46,
+    WEIRBOWL_MESSAGE_NOT_JSON = 50,
+    WEIRBOWL_MESSAGE_BAD_SHAPE = 51,
+    WEIRBOWL_MESSAGE_ANOTHER_SCHEMA = 52,
+    WEIRBOWL_MESSAGE_ANOTHER_VERSION = 53,
+    WEIRBOWL_MESSAGE_BAD_COUNT = 54,
+    WEIRBOWL_MESSAGE_BAD_ENTRY = 55,
+    WEIRBOWL_MESSAGE_ANOTHER_NAME = 56,
+    WEIRBOWL_MESSAGE_NOT_CANONICAL = 57,
+    WEIRBOWL_SITE_NOT_THERE = 60,
+    WEIRBOWL_SITE_WOULD_CYCLE = 61,
+    WEIRBOWL_SITE_CLOCK_FULL = 62,
+    WEIRBOWL_SITE_NOT_A_REQUEST = 63
+} weirbowl_code;
+
+/* The next three read a reply, of which at most `out_length` bytes are in `out`, the memory that its call was given. */
+
+/* Returns whether the whole body is in `out`: only then may its `length` bytes be read there. */
+static inline bool weirbowl_fits(weirbowl_result result, size_t out_length) { return result.length <= out_length; }
+
+/* Returns the decision of weirbowl_authorize, weirbowl_decide or weirbowl_decide_under, also if weirbowl_last_body copied
+ * it. It is WEIRBOWL_UNDECIDED if the body is not whole in `out`, or is that of an error. */
+static inline weirbowl_decision weirbowl_decision_of(weirbowl_result result, const uint8_t *out, size_t out_length) {
+    /* an answer begins so, and an answer with a cycle denies */
+    static const char allows[] = "{\"cycle\":[],\"decision\":\"Allow\",", answers[] = "{\"cycle\":[";
+    size_t length = result.length;
+    if (result.status != 200 || !weirbowl_fits(result, out_length)) return WEIRBOWL_UNDECIDED;
+    if (length >= sizeof allows - 1 && memcmp(out, allows, sizeof allows - 1) == 0) return WEIRBOWL_ALLOW;
+    if (length >= sizeof answers - 1 && memcmp(out, answers, sizeof answers - 1) == 0) return WEIRBOWL_DENY;
+    return WEIRBOWL_UNDECIDED;
+}
+
+/* Returns the code of an error: WEIRBOWL_NO_CODE if the reply is no error, or its body is not whole in `out`. */
+static inline weirbowl_code weirbowl_code_of(weirbowl_result result, const uint8_t *out, size_t out_length) {
+    static const char begins[] = "{\"error\":{\"code\":";
+    size_t at = sizeof begins - 1;
+    int code = 0;
+    if (result.status == 503) return WEIRBOWL_OUT_OF_MEMORY;
+    if (!weirbowl_fits(result, out_length) || result.length < at || memcmp(out, begins, at) != 0) return WEIRBOWL_NO_CODE;
+    for (; at < result.length && out[at] >= '0' && out[at] <= '9' && code < 100; at++) code = 10 * code + (out[at] - '0');
+    return (weirbowl_code)code;
+}
 
 /* Opens a site with nothing stored, under a schema. `name` goes into its stamps: 1 to 32 ASCII letters, digits, `-`, `_`
  * or `.`; no site that exchanges with it, directly or not, has or had this name.

@@ -39,6 +39,12 @@ impl Error {
         }
     }
 
+    /// Returns the code by its name.
+    #[must_use]
+    pub fn kind(&self) -> Option<Code> {
+        Code::of(self.code)
+    }
+
     /// Returns what the code means, in a sentence without its end.
     #[must_use]
     pub fn sentence(&self) -> &'static str {
@@ -61,57 +67,79 @@ impl fmt::Display for Error {
 
 impl std::error::Error for Error {}
 
-/// Each code with its sentence.
-const SENTENCES: &[(u32, &str)] = &[
-    (1, "out of memory"),
-    (2, "the name does not have 1 to 32 letters, digits, `-`, `_` or `.`"),
-    (10, "no token of a policy begins here"),
-    (11, "one policy is expected, and this does not continue it"),
-    (12, "the number is outside signed 64 bits"),
-    (13, "no function or method has this name"),
-    (14, "the call has another number of arguments"),
-    (15, "the key, the annotation or the name is repeated"),
-    (16, "templates are not supported"),
-    (17, "the policy is nested too deeply or is too large"),
-    (18, "the text is too long"),
-    (19, "the policy's id does not have 1 to 256 bytes of UTF-8"),
-    (20, "the schema is not JSON"),
-    (21, "the JSON does not have the form of a schema"),
-    (22, "the schema uses a name that it does not declare"),
-    (23, "a common type contains itself"),
-    (24, "an action is its own ancestor"),
-    (25, "a type of the schema is too large"),
-    (30, "the JSON does not have the form of an entity or a request"),
-    (31, "the entity's type is not declared"),
-    (32, "actions are declared in the schema only"),
-    (33, "the attribute is not declared"),
-    (34, "a required attribute is missing"),
-    (35, "an attribute's value has another type"),
-    (36, "the entity may not have a parent of this type"),
-    (37, "the entity is its own parent"),
-    (38, "tags are not supported"),
-    (39, "the action does not apply to these types"),
-    (40, "the policy names an entity type that is not declared"),
-    (41, "the policy names an action that is not declared"),
-    (42, "the policy uses a value of another type"),
-    (43, "the policy uses two types that have no common type"),
-    (44, "the policy uses an attribute that is not declared or may be missing"),
-    (45, "the policy has an empty set of unknown type"),
-    (46, "the text of an extension value is not valid"),
-    (50, "the message is not JSON"),
-    (51, "the JSON does not have the form of a message"),
-    (52, "the message is under another schema"),
-    (53, "the message has another version"),
-    (54, "a count of the message is out of range"),
-    (55, "an entry of the message is not valid"),
-    (56, "an entry of the message has the name of another entity"),
-    (57, "the text of an entity is not canonical"),
-    (60, "nothing is stored under this name"),
-    (61, "the entity would be its own ancestor"),
-    (62, "no stamp is left"),
-    (63, "the JSON is not a request under the schema"),
-];
+/// Declares the codes, each by its name, its number and its sentence.
+macro_rules! codes {
+    ($($name:ident = $number:literal: $sentence:literal,)*) => {
+        /// The code of an error, by name: docs/codes.md.
+        #[non_exhaustive]
+        #[derive(Debug, Clone, Copy, PartialEq, Eq, Hash)]
+        #[repr(u32)]
+        pub enum Code {
+            $(#[doc = $sentence] $name = $number,)*
+        }
+
+        const SENTENCES: &[(Code, &str)] = &[$((Code::$name, $sentence),)*];
+    };
+}
+
+codes! {
+    OutOfMemory = 1: "out of memory",
+    BadSiteName = 2: "the name does not have 1 to 32 letters, digits, `-`, `_` or `.`",
+    PolicyBadToken = 10: "no token of a policy begins here",
+    PolicyUnexpected = 11: "one policy is expected, and this does not continue it",
+    PolicyNumberRange = 12: "the number is outside signed 64 bits",
+    PolicyUnknownCall = 13: "no function or method has this name",
+    PolicyArity = 14: "the call has another number of arguments",
+    PolicyRepeatedKey = 15: "the key, the annotation or the name is repeated",
+    PolicySlot = 16: "templates are not supported",
+    PolicyTooDeep = 17: "the policy is nested too deeply or is too large",
+    PolicyTooLong = 18: "the text is too long",
+    PolicyBadId = 19: "the policy's id does not have 1 to 256 bytes of UTF-8",
+    SchemaNotJson = 20: "the schema is not JSON",
+    SchemaBadShape = 21: "the JSON does not have the form of a schema",
+    SchemaUnknownName = 22: "the schema uses a name that it does not declare",
+    SchemaTypeCycle = 23: "a common type contains itself",
+    SchemaActionCycle = 24: "an action is its own ancestor",
+    SchemaTypeTooLarge = 25: "a type of the schema is too large",
+    EntityBadShape = 30: "the JSON does not have the form of an entity or a request",
+    EntityUnknownType = 31: "the entity's type is not declared",
+    EntityActionEntity = 32: "actions are declared in the schema only",
+    EntityUndeclaredAttribute = 33: "the attribute is not declared",
+    EntityMissingAttribute = 34: "a required attribute is missing",
+    EntityWrongType = 35: "an attribute's value has another type",
+    EntityBadParent = 36: "the entity may not have a parent of this type",
+    EntitySelfParent = 37: "the entity is its own parent",
+    EntityTags = 38: "tags are not supported",
+    EntityNotApplicable = 39: "the action does not apply to these types",
+    ValidationUnknownEntityType = 40: "the policy names an entity type that is not declared",
+    ValidationUnknownAction = 41: "the policy names an action that is not declared",
+    ValidationWrongType = 42: "the policy uses a value of another type",
+    ValidationNoCommonType = 43: "the policy uses two types that have no common type",
+    ValidationAttribute = 44: "the policy uses an attribute that is not declared or may be missing",
+    ValidationEmptySet = 45: "the policy has an empty set of unknown type",
+    ValidationExtensionText = 46: "the text of an extension value is not valid",
+    MessageNotJson = 50: "the message is not JSON",
+    MessageBadShape = 51: "the JSON does not have the form of a message",
+    MessageAnotherSchema = 52: "the message is under another schema",
+    MessageAnotherVersion = 53: "the message has another version",
+    MessageBadCount = 54: "a count of the message is out of range",
+    MessageBadEntry = 55: "an entry of the message is not valid",
+    MessageAnotherName = 56: "an entry of the message has the name of another entity",
+    MessageNotCanonical = 57: "the text of an entity is not canonical",
+    SiteNotThere = 60: "nothing is stored under this name",
+    SiteWouldCycle = 61: "the entity would be its own ancestor",
+    SiteClockFull = 62: "no stamp is left",
+    SiteNotARequest = 63: "the JSON is not a request under the schema",
+}
+
+impl Code {
+    /// Returns the code of a number, if there is one.
+    #[must_use]
+    pub fn of(number: u32) -> Option<Code> {
+        SENTENCES.iter().map(|(code, _)| *code).find(|code| *code as u32 == number)
+    }
+}
 
 fn sentence(code: u32) -> &'static str {
-    SENTENCES.iter().find(|(it, _)| *it == code).map_or("unknown code", |(_, sentence)| sentence)
+    SENTENCES.iter().find(|(it, _)| *it as u32 == code).map_or("unknown code", |(_, sentence)| sentence)
 }

@@ -36,9 +36,9 @@ mod json;
 mod replies;
 
 use calls::*;
-pub use error::Error;
+pub use error::{Code, Error};
 use json::Json;
-pub use replies::{request, Answer, Decision, ErringPolicy, Found, Put, Stamp, Uid, Verdict};
+pub use replies::{request, request_with_context, Answer, Decision, ErringPolicy, Found, Put, Stamp, Uid, Verdict};
 
 /// The bytes of a new site's memory for replies; it grows to the longest reply.
 const ROOM: usize = 1024;
@@ -136,7 +136,7 @@ impl Site {
                 let line = Json::read(body);
                 Ok(Some(Found { text: line.get("text").text(), stamp: Stamp::of(&line) }))
             }
-            Err(error) if error.code == 60 => Ok(None),
+            Err(error) if error.kind() == Some(Code::SiteNotThere) => Ok(None),
             Err(error) => Err(error),
         }
     }

@@ -39,13 +39,27 @@ impl Uid {
     }
 }
 
+impl Decision {
+    /// Returns whether it is `Allow`.
+    #[must_use]
+    pub fn is_allowed(self) -> bool {
+        self == Decision::Allow
+    }
+}
+
 /// Returns the JSON of a request with an empty context.
-///
-/// A request with a context is the same object with one more key: `"context":{..}`.
 #[must_use]
 pub fn request(principal: &Uid, action: &Uid, resource: &Uid) -> String {
+    request_with_context(principal, action, resource, "{}")
+}
+
+/// Returns the JSON of a request with a context, an object of JSON such as `{"mfa":true}`.
+///
+/// Whatever the text of the context is, the request has these uids or is rejected: the last value of a repeated key counts.
+#[must_use]
+pub fn request_with_context(principal: &Uid, action: &Uid, resource: &Uid, context: &str) -> String {
     format!(
-        "{{\"principal\":{},\"action\":{},\"resource\":{}}}",
+        "{{\"context\":{context},\"principal\":{},\"action\":{},\"resource\":{}}}",
         principal.to_json(),
         action.to_json(),
         resource.to_json()
@@ -93,7 +107,7 @@ impl Answer {
     /// Returns whether the decision is `Allow`.
     #[must_use]
     pub fn is_allowed(&self) -> bool {
-        self.decision == Decision::Allow
+        self.decision.is_allowed()
     }
 }
 

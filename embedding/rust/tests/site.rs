@@ -1,4 +1,4 @@
-use weirbowl::{check, decide, decide_under, request, Decision, Site, Uid, Verdict};
+use weirbowl::{check, decide, decide_under, request, request_with_context, Code, Decision, Site, Uid, Verdict};
 
 const SCHEMA: &str = r#"{"":{"entityTypes":{"User":{"memberOfTypes":["Team"]},"Team":{},"Photo":{}},"actions":{"view":{"appliesTo":{"principalTypes":["User"],"resourceTypes":["Photo"]}}}}}"#;
 const ALL: &str = "permit(principal, action, resource);";
@@ -11,7 +11,7 @@ fn ann_views() -> String {
 #[test]
 fn decides_and_changes() {
     let mut site = Site::open(SCHEMA, "one").unwrap();
-    assert_eq!(site.authorize(ann_views()).unwrap().decision, Decision::Deny);
+    assert!(!site.authorize(ann_views()).unwrap().decision.is_allowed());
     let put = site.put_policy("p", TEAM).unwrap();
     assert_eq!((put.stamp.count, put.stamp.site.as_str(), put.impossible), (1, "one", false));
     site.put_entity(r#"{"uid":{"type":"User","id":"ann"},"parents":[{"type":"Team","id":"t"}]}"#).unwrap();
@@ -67,7 +67,8 @@ fn rejects() {
     assert_eq!((error.code, error.place), (11, Some(24)));
     assert_eq!(site.put_policy("", ALL).unwrap_err().code, 19);
     assert_eq!(site.merge(b"\xff").unwrap_err().code, 50);
-    assert_eq!(site.delete_policy("absent").unwrap_err().status, 404);
+    let error = site.delete_policy("absent").unwrap_err();
+    assert_eq!((error.status, error.kind()), (404, Some(Code::SiteNotThere)));
     assert_eq!(site.put_entity("{}").unwrap_err().code, 30);
 }
 
@@ -83,6 +84,29 @@ fn decides_over_texts() {
     assert_eq!(verdicts, [("policy0".to_string(), Verdict::Accepted), ("policy1".to_string(), Verdict::Rejected(44))]);
     assert_eq!(check(SCHEMA, "#").unwrap_err().code, 10);
     assert_eq!(check(SCHEMA, "").unwrap(), []);
+}
+
+#[test]
+fn requests_have_a_context() {
+    let (ann, eve) = (Uid::new("User", "ann"), Uid::new("User", "eve"));
+    let (view, photo) = (Uid::new("Action", "view"), Uid::new("Photo", "p1"));
+    let schema = SCHEMA.replace(
+        r#""appliesTo":{"#,
+        r#""appliesTo":{"context":{"type":"Record","attributes":{"mfa":{"type":"Boolean"}}},"#,
+    );
+    let policy = r#"permit(principal == User::"ann", action, resource) when { context.mfa };"#;
+    let allowed = |principal: &Uid, context: &str| {
+        let asked = request_with_context(principal, &view, &photo, context);
+        decide_under(&schema, policy, "[]", asked).map(|answer| answer.is_allowed())
+    };
+    assert_eq!(allowed(&ann, r#"{"mfa":true}"#), Ok(true));
+    assert_eq!(allowed(&ann, r#"{"mfa":false}"#), Ok(false));
+    assert_eq!(allowed(&ann, "{}").unwrap_err().kind(), Some(Code::EntityMissingAttribute));
+    // a context that would bring its own principal
+    let forged = format!(r#"{{"mfa":true}},"principal":{}"#, ann.to_json());
+    assert_ne!(allowed(&eve, &forged), Ok(true));
+    assert_eq!(Code::of(60), Some(Code::SiteNotThere));
+    assert_eq!(Code::of(3), None);
 }
 
 #[test]
