@@ -200,6 +200,32 @@ def about_systemd(room):
         check(f"the exposure of {os.path.basename(path)}", done.returncode == 0, (done.stdout.strip() or done.stderr).split("\n")[-1])
 
 
+def about_container(room):
+    root = f"{room}/container"
+    with open(f"{TOP}/examples/Containerfile", encoding="utf-8") as file:
+        copies = re.findall(r"(?m)^COPY (--from=\S+ )?(\S+) (\S+)$", file.read())
+    if os.geteuid() != 0 or not shutil.which("unshare"):
+        print("skipped: the container's files (not root, or no unshare)")
+        return
+    for other, source, to in copies:
+        target = root + (to + os.path.basename(source) if to.endswith("/") else to)
+        os.makedirs(os.path.dirname(target), exist_ok=True)
+        # the C library is taken from here, in place of the image's
+        shutil.copy(source if other else PROGRAM, target)
+    done = subprocess.run(["chroot", root, "/cedar_site", "--version"], capture_output=True, text=True, check=False)
+    check("the container's files run the program", done.returncode == 0 and "cedar_site" in done.stdout, done.stdout + done.stderr)
+    shutil.copy(SCHEMA, root)
+    port = free_port()
+    words = ["unshare", "--pid", "--fork", "--kill-child", f"--root={root}", "/cedar_site", "serve", "--schema", "/schema.json", "--site", "one"]
+    process = subprocess.Popen([*words, "--listen", f"127.0.0.1:{port}", "--log", "-"], stdout=subprocess.PIPE)
+    process.stdout.readline()
+    process.stdout.close()
+    check("process 1: no reply if the log's reader is gone", asked(port, "GET", "/v1/summary")[0] is None, "got a reply")
+    check("process 1 goes on", process.poll() is None, f"got the status {process.poll()}")
+    process.kill()
+    process.wait()
+
+
 def main():
     argparse.ArgumentParser(description=__doc__, formatter_class=argparse.RawDescriptionHelpFormatter).parse_args()
     with tempfile.TemporaryDirectory() as room:
@@ -212,6 +238,7 @@ def main():
         finally:
             machine.end()
         about_systemd(room)
+        about_container(room)
     print(f"{sum(results)} passed, {len(results) - sum(results)} failed")
     return 0 if all(results) else 1
 
