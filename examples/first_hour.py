@@ -5,7 +5,7 @@
 
 A block is a part of a page that is indented by four spaces. Those that begin with a command are typed into one shell a page,
 in a copy of examples/. `cedar_site` is the built program, or the one that PROGRAM names. Ports are replaced by free ones.
-Served sites go to the background; all end before one starts at an address where another listens. A loop runs once. Each
+Served sites go to the background; all end before one starts at an address where another listens. Each
 command must end with status 0, and each block must print its texts of WANTED, in order. The last line is `N passed, M
 failed`. Without bash, curl, sha256sum or timeout the script is skipped, and says so. Standard library alone.
 """
@@ -28,7 +28,7 @@ PAGES = (
     ("docs/operating.md", "."),
     ("examples/tinytodo/README.md", "examples/tinytodo"),
 )
-TYPED = re.compile(r"(cd|sed|tail|cedar_site (check|decide|load|serve|exchange|pull|merge|drill)|\./cedar_site|curl|while) |\w+=http")
+TYPED = re.compile(r"(cd|sed|tail|cedar_site (check|decide|load|serve|exchange|pull|merge|drill)|\./cedar_site|curl) |\w+=http")
 # the expected output of a block, in this order, by its first words
 WANTED = {
     "cd examples/photos": [r'\{"cycle":\[\],"decision":"Allow","errors":\[\],"reason":\["family-sees-summer"\]\}'],
@@ -40,9 +40,8 @@ WANTED = {
     "tail": [r'"method":"GET","target":"/v1/summary","status":200', r'"target":"/v1/merge","status":200'],
     "cedar_site serve --schema schema.json --site 1 --listen 127.0.0.1:7000 &": [
         "listening ", "listening ", r'\{"taken":1\}', r'\{"taken":0\}', r"(?P<sum>[0-9a-f]{64})", r"(?P=sum)"],
-    "while": [r'\{"taken":\d+\}'],
+    "cedar_site pull --schema schema.json --site 2": [r'\{"taken":\d+\}'],
     "cedar_site pull --schema schema.json --site 3": [r'\{"taken":1\}', "listening ", r'\{"taken":0\}', r'\{"taken":0\}'],
-    "cedar_site serve --schema schema.json --site 2-b": ["listening ", r'\{"taken":0\}', r'\{"taken":0\}'],
     "sed": ["listening "],
     "cedar_site check --schema schema.json policies.cedar\ncedar_site decide": [r'"decision":"Deny".*"reason":\["interns"\]'],
     "cedar_site drill": [r'"decision"|"stamp"|"count"'],
@@ -128,9 +127,8 @@ class Shell:
 
 
 def as_typed(block):
-    """Returns the commands of a block as they are typed: sites in the background, loops once."""
+    """Returns the commands of a block as they are typed: sites in the background."""
     text = re.sub(r"(\.\./\.\./|\./)cedar_site(?= )", "cedar_site", block).replace("cedar_site --unproved", "cedar_site")
-    text = text.replace("while sleep 10; do", "for once in 1; do")
     return re.sub(r"(?m)^(cedar_site serve [^&\n]*[^&\s])$", r"\1 &", text)
 
 
