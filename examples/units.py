@@ -197,6 +197,9 @@ def about_systemd(room):
     for path in (it for it in units if it.endswith(".service")):
         words = ["systemd-analyze", "--no-pager", "security", "--offline=true", f"--threshold={MOST_EXPOSED}", path]
         done = subprocess.run(words, capture_output=True, text=True, check=False)
+        if "unrecognized option" in done.stderr:
+            print("skipped: the exposure of the units (an older systemd-analyze)")
+            return
         check(f"the exposure of {os.path.basename(path)}", done.returncode == 0, (done.stdout.strip() or done.stderr).split("\n")[-1])
 
 
