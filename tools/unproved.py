@@ -9,6 +9,7 @@ the programs there the last MOST_KEPT stay. If it has to be compiled, the files 
 that has run: so it runs a site that waits for a client, meanwhile the program gets another name. A run that is ended
 leaves nothing. Standard library alone.
 """
+import contextlib
 import fcntl
 import glob
 import os
@@ -24,7 +25,7 @@ import command_line
 TOP, PROGRAM = build.TOP, "cedar_site"
 MOST_KEPT = 4
 # the seconds for which the program waits for its client, and between two looks for it
-WAITS, LOOKS = 3, 0.01
+WAITS, LOOKS = 3, 0.05
 RUN = ["serve", "--schema", "schema.json", "--site", "unproved", "--listen", "127.0.0.1:0", "--connections", "1"]
 
 
@@ -49,12 +50,9 @@ def is_right(path):
 
 def caught(room):
     """Gives each program below a folder a second name there. Returns these names."""
-    for number, path in enumerate(glob.glob(f"{room}/rt-*/**/program", recursive=True)):
-        kept = f"{room}/{os.stat(path).st_ino if os.path.exists(path) else number}.kept"
-        try:
-            os.link(path, kept)
-        except (FileExistsError, FileNotFoundError):
-            pass
+    for path in glob.glob(f"{room}/rt-*/**/program", recursive=True):
+        with contextlib.suppress(FileExistsError, FileNotFoundError):
+            os.link(path, f"{room}/{os.stat(path).st_ino}.kept")
     return glob.glob(f"{room}/*.kept")
 
 
