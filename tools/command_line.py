@@ -128,7 +128,8 @@ class Table:
         while todo[0][1] in (".", "?"):
             if todo.pop(0)[1] == ".":
                 name = todo.pop(0)[1]
-                value = METHODS[name](value, *self.arguments(todo, known))
+                # another method of clap, as one that only affects the help, changes nothing here
+                value = METHODS.get(name, lambda it, *_: it)(value, *self.arguments(todo, known))
         return value
 
     def arguments(self, todo, known):
@@ -168,7 +169,7 @@ def files_of(words):
     given.update(zip([it.name for it in command.args if not it.is_long], placed))
     for arg in command.args:
         is_code = arg.value == "WHAT" and given.get(arg.name, "").isdecimal()
-        if arg.is_read(command.name) and arg.name in given and not is_code:
+        if arg.is_read(command.name) and given.get(arg.name, "-") != "-" and not is_code:
             yield given[arg.name]
 
 
