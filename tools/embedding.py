@@ -43,7 +43,7 @@ includedir={include}
 
 Name: weirbowl
 Description: A replicated store of Cedar policies and entities in your process, with proved decisions
-Version: 1.0.0
+Version: {version}
 Libs: -L${{libdir}} -lweirbowl
 Cflags: -I${{includedir}}
 """
@@ -165,6 +165,8 @@ def about_declarations(count):
     python = {int(a): b for a, b in re.findall(r'(?m)^    (\d+): "(.*)",$', read("embedding/python/weirbowl/__init__.py"))}
     count.check("the codes are those of docs/codes.md", set(rust) == codes, differing_sets(codes, set(rust)))
     count.check("Rust and Python have the same sentences", rust == python, differing_sets(set(rust.items()), set(python.items())))
+    versions = [version_in(it) for it in ("rust/Cargo.toml", "python/pyproject.toml")]
+    count.check("Rust and Python have one version", len(set(versions)) == 1, f"got {versions}")
     names = {(code, "".join(it.capitalize() for it in words)) for code, words in named_codes()}
     found = {(int(code), name) for name, code, _ in of_rust_codes()}
     count.check("Rust has the names of docs/codes.md", found == names, differing_sets(names, found))
@@ -237,6 +239,10 @@ def build_archive(count):
     return archive if count.check("the archive, proved", proved, (done.stdout + done.stderr)[-3000:]) else None
 
 
+def version_in(name):
+    return re.search(r'(?m)^version = "(.*)"$', read(f"embedding/{name}"))[1]
+
+
 def symbols(path, *flags):
     listed = subprocess.run(["nm", *flags, path], capture_output=True, text=True, check=True).stdout
     return {it.split()[-1] for it in listed.split("\n") if it.strip() and not it.endswith(":")}
@@ -257,7 +263,7 @@ def link(count, archive):
     subprocess.run([*cc, f"-Wl,-soname,{SONAME}", "-Wl,--gc-sections", "-Wl,-z,defs"], check=True)
     os.symlink(SONAME, f"{OUT}/libweirbowl.so")
     with open(f"{OUT}/weirbowl.pc", "w", encoding="utf-8") as file:
-        file.write(PC.format(out=OUT, include=f"{HERE}/include"))
+        file.write(PC.format(out=OUT, include=f"{HERE}/include", version=version_in("rust/Cargo.toml")))
     names = {it[0] for it in exports()}
     shown = {it.partition("@")[0] for it in symbols(shared, "-D", "--defined-only")} - {"WEIRBOWL_1"}
     count.check("the shared library shows the exports alone", shown == names, differing_sets(names, shown))
