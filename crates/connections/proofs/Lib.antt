@@ -1,0 +1,14 @@
+mod StoryLemmas
+mod CutLemmas
+mod TableLemmas
+mod JoinLemmas
+mod WaitingLemmas
+mod RoundLemmas
+mod LogLemmas
+mod WholeRounds
+mod ReadyLemmas
+mod HandleLemmas
+mod RunLemmas
+mod QuietLemmas
+mod BoundLemmas
+mod LimitLemmas

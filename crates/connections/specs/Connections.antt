@@ -1,0 +1,246 @@
+-- Defines a table of connections: what may happen to a connection, and to the whole table.
+-- Source: RFC 9112, sections 9.3 and 9.6 (persistence, pipelining, tear-down).
+-- Rules of this product: one reply at a time. A connection is read from, and has a request answered, only after its
+-- last reply was taken. Memory for a read is reserved before it, so no byte that came is lost. No byte of a reply is
+-- taken before the reply is committed and its whole line is in the log. A connection is closed only for a stated
+-- reason. At most `MAX_LONG` connections hold more than `MAX_SHORT` bytes of input, and no reply is made while more
+-- than `MAX_UNSENT` bytes of replies are unsent.
+use Rattle.std.specs.Prelude.{◌≡◌, ◌≤◌, ◌<◌, ◌+◌, ◌-◌, ◌/◌, ◌⊎◌, ℕ, Bool, true, false, List, [], ◌∷◌, ◌++◌}
+use Rattle.std.specs.Prelude.{Some, length, map, nat_lt, slice_get, slice_set}
+use Rattle.std.specs.List.{count_by, sum_by}
+use Rattle.connections.specs.declared.TheConstants.{BYTES_PER_MILLI, MAX_READ, MAX_REQUEST, REQUEST_MILLIS, ROOM_MILLIS}
+use Rattle.connections.specs.declared.TheConstants.{MAX_LONG, MAX_SHORT, MAX_UNSENT}
+use Rattle.connections.specs.declared.slot.Reason.{Reason}
+use Rattle.connections.specs.declared.slot.Reason.TheVariants as Reasons
+use Rattle.connections.specs.declared.slot.Stage.{Stage}
+use Rattle.connections.specs.declared.slot.Stage.TheVariants as Stages
+
+-- A `Connection` is a slot of the table: whether it has a connection (`is_open`), whether its client will send no more
+-- (`ended`), whether a reply that ends it was made (`closing`), how far its last reply has come (`stage`), the bytes
+-- that came and are not answered (`input`), the bytes of its last reply that its writer has not taken (`output`), the
+-- line that the log is to get for this reply (`line`), the number of bytes below which `input` is known to be less than
+-- a request (`needed`), the number of bytes for which memory is reserved (`spare`), the time of the last byte in either
+-- direction (`since`), and the time when the request under way began (`began`). Times are in milliseconds.
+pub record Connection : Type 0 where
+  pub is_open : Bool
+  pub ended : Bool
+  pub closing : Bool
+  pub stage : Stage
+  pub input : List ℕ
+  pub output : List ℕ
+  pub line : List ℕ
+  pub needed : ℕ
+  pub spare : ℕ
+  pub since : ℕ
+  pub began : ℕ
+
+-- `kept s line` is the line of a reply at the stage `s`: nothing once the log got it, or is never to get it.
+abbrev pub kept : Stage → List ℕ → List ℕ
+kept Stages.Made line = line
+kept Stages.Committed line = line
+kept Stages.Logged line = []
+kept Stages.Uncommitted line = []
+kept Stages.Unlogged line = []
+
+-- `fresh open_now now` is a slot without bytes since `now`, with a connection if `open_now` is true.
+abbrev pub fresh : Bool → ℕ → Connection
+fresh open_now now = record {
+  is_open = open_now;
+  ended = false;
+  closing = false;
+  stage = Stages.Logged;
+  input = [];
+  output = [];
+  line = [];
+  needed = 0;
+  spare = 0;
+  since = now;
+  began = now;
+}
+
+-- `start_of input began now` is the time when the request under way began, after bytes that came at `now`: it began at
+-- `began` if some of it, `input`, had come before, else at `now`.
+abbrev pub start_of : List ℕ → ℕ → ℕ → ℕ
+start_of [] began now = now
+start_of (x ∷ input) began now = began
+
+-- A `Change` is what happens to one connection: it is opened; memory is reserved for a read; bytes come; its client
+-- ends its side; the service finds less than a request, which needs so many bytes, or answers one; the log gets the
+-- line of the reply, whole or only a proper prefix of it; the writer takes bytes; the connection is closed.
+pub data Change : Type 0 where
+  Opened : (now : ℕ) → Change
+  Reserved : Change
+  Came : (bytes : List ℕ) → (now : ℕ) → Change
+  Ended : Change
+  Lacked : (needed : ℕ) → Change
+  Answered : (request : List ℕ) → (closes : Bool) → (reply : List ℕ) → (line : List ℕ) → Change
+  Logged : (line : List ℕ) → Change
+  CutOff : (line : List ℕ) → Change
+  Took : (bytes : List ℕ) → (now : ℕ) → Change
+  Gone : (why : Reason) → Change
+
+-- An `Entry` is a change at the slot `at`; or the service committed all replies that it made, or failed to.
+pub data Entry : Type 0 where
+  At : (at : ℕ) → (change : Change) → Entry
+  Committed : Entry
+  Uncommitted : Entry
+
+-- `MayAnswer c` holds if `c` may have a request answered: its last reply was taken, and no reply has ended it.
+pub record MayAnswer (c : Connection) : Type 0 where
+  pub is_open : c.is_open ≡ true
+  pub drained : c.output ≡ []
+  pub lasts : c.closing ≡ false
+  pub logged : c.stage ≡ Stages.Logged
+
+-- `MayRead c` holds if `c` may be read from: it may have a request answered, its client may send more, and no more than
+-- the longest request waits for an answer.
+pub record MayRead (c : Connection) : Type 0 where
+  pub answers : MayAnswer c
+  pub goes_on : c.ended ≡ false
+  pub small : length c.input ≤ MAX_REQUEST
+
+-- `IsOver c` holds if the last reply of the connection was taken, and that reply ended it; or its client ended it with
+-- less than a request left.
+pub record IsOver (c : Connection) : Type 0 where
+  pub logged : c.stage ≡ Stages.Logged
+  pub drained : c.output ≡ []
+  pub ended : (c.closing ≡ true) ⊎ ((c.ended ≡ true) × (length c.input < c.needed))
+
+-- `due c` is the time at which the request under way at `c` is to be whole: `REQUEST_MILLIS` after its first byte, and
+-- a millisecond later for each `BYTES_PER_MILLI` bytes beyond the first `MAX_READ`.
+abbrev pub due : Connection → ℕ
+due c = c.began + REQUEST_MILLIS + (length c.input - MAX_READ) / BYTES_PER_MILLI
+
+-- `IsLate now c` holds if a request is under way at `c`, and is not whole when it is due.
+abbrev pub IsLate : ℕ → Connection → Type 0
+IsLate now c = (0 < length c.input) × (c.output ≡ []) × (due c ≤ now)
+
+-- `IsExpired idle now c` holds if there is a limit, `idle`; and no byte came or was taken for so long, or a request is
+-- late.
+abbrev pub IsExpired : ℕ → ℕ → Connection → Type 0
+IsExpired idle now c = (0 < idle) × ((c.since + idle ≤ now) ⊎ IsLate now c)
+
+-- `IsIdleFor millis now c` holds if neither a request nor a reply is under way at `c`, and for so long no byte came or
+-- was taken.
+abbrev pub IsIdleFor : ℕ → ℕ → Connection → Type 0
+IsIdleFor millis now c = (length c.input ≡ 0) × (c.output ≡ []) × (c.since + millis ≤ now)
+
+-- `MayGo why c` holds if the connection `c` may be closed for the reason `why`.
+abbrev pub MayGo : Reason → Connection → Type 0
+MayGo Reasons.Over c = IsOver c
+MayGo Reasons.Broken c = c.stage ≡ Stages.Logged
+MayGo Reasons.Unlogged c = c.stage ≡ Stages.Unlogged
+MayGo Reasons.Uncommitted c = c.stage ≡ Stages.Uncommitted
+MayGo (Reasons.Expired idle now) c = (c.stage ≡ Stages.Logged) × IsExpired idle now c
+MayGo (Reasons.MadeRoom now) c = (c.stage ≡ Stages.Logged) × (IsIdleFor ROOM_MILLIS now c ⊎ IsLate now c)
+
+-- `IsChange change a b` holds if the change may turn the connection `a` into `b`.
+abbrev pub IsChange : Change → Connection → Connection → Type 0
+IsChange (Opened now) a b = (a.is_open ≡ false) × (b ≡ fresh true now)
+IsChange Reserved a b = MayRead a × (b ≡ record a { spare = MAX_READ })
+IsChange (Came bytes now) a b =
+    MayRead a × (0 < length bytes) × (length bytes ≤ a.spare)
+    × (b ≡ record a {
+      input = a.input ++ bytes;
+      spare = a.spare - length bytes;
+      since = now;
+      began = start_of a.input a.began now;
+    })
+IsChange Ended a b = MayRead a × (b ≡ record a { ended = true })
+IsChange (Lacked needed) a b = MayAnswer a × (length a.input < needed) × (b ≡ record a { needed = needed })
+IsChange (Answered request closes reply line) a b =
+    MayAnswer a × (0 < length request) × (a.input ≡ request ++ b.input)
+    × (b ≡ record a {
+      closing = closes;
+      stage = Stages.Made;
+      input = b.input;
+      output = reply;
+      line = line;
+      needed = 0;
+      began = a.since;
+    })
+IsChange (Logged line) a b =
+    (a.stage ≡ Stages.Committed) × (line ≡ a.line) × (b ≡ record a { stage = Stages.Logged; line = [] })
+IsChange (CutOff line) a b =
+    (a.stage ≡ Stages.Committed) × (line ≡ a.line) × (b ≡ record a { stage = Stages.Unlogged; line = [] })
+IsChange (Took bytes now) a b =
+    (a.is_open ≡ true) × (a.stage ≡ Stages.Logged) × (0 < length bytes) × (a.output ≡ bytes ++ b.output)
+    × (b ≡ record a { output = b.output; since = now; began = now })
+IsChange (Gone why) a b = (a.is_open ≡ true) × MayGo why a × (b ≡ fresh false 0)
+
+-- `held c` is the number of bytes of `c` that wait for an answer, with those for which memory is reserved.
+abbrev pub held : Connection → ℕ
+held c = length c.input + c.spare
+
+-- `is_long c` is true if `c` holds more than `MAX_SHORT` bytes.
+abbrev pub is_long : Connection → Bool
+is_long c = nat_lt MAX_SHORT (held c)
+
+-- `longs table` is the number of connections of the table that hold more than `MAX_SHORT` bytes.
+abbrev pub longs : List Connection → ℕ
+longs table = count_by is_long table
+
+-- `unsent table` is the number of bytes of replies that the writers have not taken.
+abbrev pub unsent : List Connection → ℕ
+unsent table = sum_by (λ c. length c.output) table
+
+-- `HasRoom change c table` holds if the table has room for the change of its connection `c`. Memory for a read is
+-- reserved if `c` then holds at most `MAX_SHORT` bytes, or holds more already, or fewer than `MAX_LONG` others do. A
+-- request is answered if at most `MAX_UNSENT` bytes are unsent.
+abbrev pub HasRoom : Change → Connection → List Connection → Type 0
+HasRoom (Opened now) c table = Unit {0}
+HasRoom Reserved c table =
+    (length c.input + MAX_READ ≤ MAX_SHORT) ⊎ (is_long c ≡ true) ⊎ (longs table < MAX_LONG)
+HasRoom (Came bytes now) c table = Unit {0}
+HasRoom Ended c table = Unit {0}
+HasRoom (Lacked needed) c table = Unit {0}
+HasRoom (Answered request closes reply line) c table = unsent table ≤ MAX_UNSENT
+HasRoom (Logged line) c table = Unit {0}
+HasRoom (CutOff line) c table = Unit {0}
+HasRoom (Took bytes now) c table = Unit {0}
+HasRoom (Gone why) c table = Unit {0}
+
+-- `ChangesAt at change old new` holds if the change, for which the table `old` has room, gives `new` at the slot `at`,
+-- and leaves all other slots as they are.
+pub record ChangesAt (at : ℕ) (change : Change) (old new : List Connection) : Type 0 where
+  pub before : Connection
+  pub after : Connection
+  pub found : slice_get old at ≡ Some before
+  pub changed : IsChange change before after
+  pub room : HasRoom change before old
+  pub is : new ≡ slice_set old at after
+
+-- `committed_at s c` is the connection `c`, whose last reply is at the stage `s`, after a commit.
+abbrev pub committed_at : Stage → Connection → Connection
+committed_at Stages.Made c = record c { stage = Stages.Committed }
+committed_at Stages.Committed c = c
+committed_at Stages.Logged c = c
+committed_at Stages.Uncommitted c = c
+committed_at Stages.Unlogged c = c
+
+-- `committed c` is the connection `c` after a commit: a reply that was made is committed.
+abbrev pub committed : Connection → Connection
+committed c = committed_at c.stage c
+
+-- `uncommitted_at s c` is the connection `c`, whose last reply is at the stage `s`, after a commit that failed.
+abbrev pub uncommitted_at : Stage → Connection → Connection
+uncommitted_at Stages.Made c = record c { stage = Stages.Uncommitted; line = [] }
+uncommitted_at Stages.Committed c = c
+uncommitted_at Stages.Logged c = c
+uncommitted_at Stages.Uncommitted c = c
+uncommitted_at Stages.Unlogged c = c
+
+-- `uncommitted c` is the connection `c` after a commit that failed: a reply that was made is lost, with its line.
+abbrev pub uncommitted : Connection → Connection
+uncommitted c = uncommitted_at c.stage c
+
+-- `Changes e old new` holds if the entry `e` changes the table `old` to `new`.
+abbrev pub Changes : Entry → List Connection → List Connection → Type 0
+Changes (At at change) old new = ChangesAt at change old new
+Changes Committed old new = new ≡ map committed old
+Changes Uncommitted old new = new ≡ map uncommitted old
+
+-- `AreChanges entries old new` holds if the entries, one after another, change the table `old` to `new`.
+abbrev pub AreChanges : List Entry → List Connection → List Connection → Type 0
+AreChanges [] old new = new ≡ old
+AreChanges (e ∷ entries) old new = (mid : List Connection) × Changes e old mid × AreChanges entries mid new

@@ -1,0 +1,13 @@
+pub mod Connections
+pub mod Steps
+pub mod Stories
+pub mod Framing
+pub mod Rounds
+pub mod Answers
+pub mod Made
+pub mod Bounds
+pub mod Limits
+pub mod Runs
+pub mod Quiet
+pub mod Ready
+pub mod inner

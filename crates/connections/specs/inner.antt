@@ -1,0 +1,4 @@
+pub mod Turns
+pub mod Waiting
+pub mod Times
+pub mod Earliest

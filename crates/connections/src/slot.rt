@@ -1,0 +1,728 @@
+//! One slot of the table, and the connection in it.
+ghost use Rattle.std.specs.Prelude.{◌≡◌, ◌≤◌, ◌<◌, ◌+◌, ◌-◌, ◌/◌, ◌↔◌, ◌⊎◌, ℕ, true, false, []};
+ghost use Rattle.std.specs.Prelude.{length, take, drop, vec_len};
+ghost use Rattle.std.specs.Prelude.{IfOk, IsTrue, IsFalse, MatchOption, OnOk, OnErr};
+ghost use Rattle.std.specs.Vec.{vec_capacity};
+ghost use Rattle.connections.specs.Connections.{Came, CutOff, Ended, Logged, Opened, Reserved, Took};
+ghost use Rattle.connections.specs.Connections.{IsChange, IsExpired, IsIdleFor, IsLate, IsOver, MayAnswer, MayRead};
+ghost use Rattle.connections.specs.Connections.{committed, fresh, is_long, uncommitted};
+ghost use Rattle.connections.specs.Framing.{StaysUnfinished};
+ghost use Rattle.connections.specs.Limits.{HasClaim, IsFirstAfter, claimed, reason_at};
+ghost use Rattle.connections.specs.Made.{MayClose, MayReadBytes, MayTake, MayTakeSome};
+ghost use Rattle.connections.specs.Steps.{IsIdle, IsTurn};
+
+use crate::logging::Log;
+use crate::service::{Outcome, Service};
+use crate::times::{sooner, until};
+use crate::{
+    BYTES_PER_MILLI, LINE_ROOM, MAX_READ, MAX_REQUEST, MAX_SHORT, REPLY_ROOM, REQUEST_MILLIS,
+    ROOM_MILLIS,
+};
+use std::alloc::{AllocError, Global};
+use std::marker::Model;
+
+/// How far the last reply of a connection has come.
+#[derive(Clone, Copy)]
+pub enum Stage {
+    /// The service made it, and has not committed it.
+    Made,
+    /// It is committed, and the log is to get its line.
+    Committed,
+    /// The log has its whole line, so it may go out; or there was no reply yet.
+    Logged,
+    /// Its commit failed: nothing of it goes out.
+    Uncommitted,
+    /// The log got only a proper prefix of its line: nothing of it goes out.
+    Unlogged,
+}
+
+/// Why a connection is closed.
+#[derive(Clone, Copy)]
+pub enum Reason {
+    /// Its last reply was taken, and that reply or its client ended it.
+    Over,
+    /// A read or a write failed.
+    Broken,
+    /// The log got only a proper prefix of the line of its last reply.
+    Unlogged,
+    /// The commit of its last reply failed.
+    Uncommitted,
+    /// It is over a limit of so many milliseconds, at this time: for so long no byte came or was taken, or its request
+    /// is late.
+    Expired(u64, u64),
+    /// It is idle or its request is late, at this time, and another connection needs its slot.
+    MadeRoom(u64),
+}
+
+/// A limit of time.
+#[derive(Clone, Copy)]
+pub enum Limit {
+    /// Connections are closed as [`Reason::Expired`], after so many milliseconds without a byte.
+    Expiry(u64),
+    /// Another connection needs a slot: one is closed as [`Reason::MadeRoom`].
+    Room,
+}
+
+/// Why a connection may make room for another.
+#[derive(Clone, Copy)]
+pub enum Claim {
+    /// It is idle.
+    Idle,
+    /// Its request is late.
+    Late,
+}
+
+/// A slot for a connection, with its bytes in both directions.
+///
+/// Contracts see a `Connection`: its flags and stage, the bytes that came and are not answered, the bytes of its last
+/// reply that its writer has not taken, and the line that the log is to get.
+#[derive(Drop)]
+pub struct Slot {
+    open: bool,
+    ended: bool,
+    closing: bool,
+    stage: Stage,
+    input: Vec<u8>,
+    // The number of bytes of `input` that are answered.
+    done: usize,
+    output: Vec<u8>,
+    // The number of bytes of `output` that are taken.
+    sent: usize,
+    // The line for the log; what it holds once the log got it has no meaning.
+    line: Vec<u8>,
+    // Fewer bytes of input than this are less than a request.
+    needed: usize,
+    // The number of bytes for which `input` has memory.
+    spare: usize,
+    // The time of the last byte in either direction.
+    since: u64,
+    // The time when the request under way began.
+    began: u64,
+}
+
+impl Model for Slot {
+    ghost use Rattle.std.specs.Prelude.{◌≤◌, ◌+◌, drop, vec_len};
+    ghost use Rattle.std.specs.Vec.{vec_capacity};
+    ghost use Rattle.connections.specs.declared.TheConstants.{LINE_ROOM, REPLY_ROOM};
+    ghost use Rattle.connections.specs.Connections.{Connection, kept};
+
+    ghost Value = { Connection };
+
+    ghost view = { λ s. record {
+      is_open = s.open;
+      ended = s.ended;
+      closing = s.closing;
+      stage = s.stage;
+      input = drop s.done s.input.items;
+      output = drop s.sent s.output.items;
+      line = kept s.stage s.line.items;
+      needed = s.needed;
+      spare = s.spare;
+      since = s.since;
+      began = s.began;
+    } };
+
+    ghost invariant = { λ s. (s.done ≤ vec_len s.input) × (s.sent ≤ vec_len s.output)
+        × (vec_len s.input + s.spare ≤ vec_capacity s.input)
+        × (REPLY_ROOM ≤ vec_capacity s.output) × (LINE_ROOM ≤ vec_capacity s.line) };
+}
+
+impl Slot {
+    /// Creates a slot without a connection.
+    ///
+    /// # Errors
+    ///
+    /// - `AllocError`: an allocation failed.
+    pub fn new(alloc: Global) -> Result<Slot, AllocError>
+        ensures { IfOk result (λ slot. slot ≡ fresh false 0) }
+    {
+        let output = Vec::with_capacity(alloc, REPLY_ROOM)?;
+        let line = Vec::with_capacity(alloc, LINE_ROOM)?;
+        Ok(Slot {
+            open: false,
+            ended: false,
+            closing: false,
+            stage: Stage::Logged,
+            input: Vec::new(alloc),
+            done: 0,
+            output,
+            sent: 0,
+            line,
+            needed: 0,
+            spare: 0,
+            since: 0,
+            began: 0,
+        })
+    }
+
+    /// Returns whether the slot has a connection.
+    pub fn is_open(&self) -> bool
+        ensures { result ≡ self.now.is_open }
+    {
+        self.open
+    }
+
+    /// Opens a connection in this free slot, at the time `now`.
+    pub fn open(&mut self, now: u64)
+        requires { self.old.is_open ≡ false }
+        ensures { IsChange (Opened now) self.old self.new }
+    {
+        self.clear(true, now);
+    }
+
+    /// Removes all bytes.
+    fn clear(&mut self, is_open: bool, now: u64)
+        ensures { self.new ≡ fresh is_open now }
+    {
+        self.open = is_open;
+        self.ended = false;
+        self.closing = false;
+        self.stage = Stage::Logged;
+        self.input.clear();
+        self.done = 0;
+        self.output.clear();
+        self.sent = 0;
+        self.line.clear();
+        self.needed = 0;
+        self.spare = 0;
+        self.since = now;
+        self.began = now;
+    }
+
+    /// Returns how far the last reply has come.
+    pub fn stage(&self) -> Stage
+        ensures { result ≡ self.now.stage }
+    {
+        self.stage
+    }
+
+    /// Returns whether the whole line of the last reply is in the log, or there was no reply yet.
+    pub fn is_logged(&self) -> bool
+        ensures { IsTrue result ↔ (self.now.stage ≡ Stage.Logged) }
+    {
+        match self.stage {
+            Stage::Logged => true,
+            Stage::Made | Stage::Committed | Stage::Uncommitted | Stage::Unlogged => false,
+        }
+    }
+
+    /// Returns the bytes of the last reply that the writer has not taken. They may go out only if the reply
+    /// [`Slot::is_logged`].
+    pub fn output(&self) -> &[u8]
+        ensures { result.now ≡ self.now.output }
+    {
+        &self.output[self.sent..]
+    }
+
+    /// Returns whether the writer has taken the whole reply.
+    pub fn is_drained(&self) -> bool
+        ensures { IsTrue result ↔ (self.now.output ≡ []) }
+    {
+        self.output().is_empty()
+    }
+
+    /// Returns whether a request may be answered.
+    pub fn may_answer(&self) -> bool
+        ensures may { IsTrue result → MayAnswer self.now }
+        ensures may_not { IsFalse result → MayAnswer self.now → ⊥ }
+    {
+        if !self.open {
+            return false;
+        }
+        if self.closing {
+            return false;
+        }
+        if !self.is_logged() {
+            return false;
+        }
+        self.is_drained()
+    }
+
+    /// Returns whether bytes may be read.
+    pub fn may_read(&self) -> bool
+        ensures may { IsTrue result → MayRead self.now }
+        ensures may_not { IsFalse result → MayRead self.now → ⊥ }
+    {
+        if self.ended {
+            return false;
+        }
+        if self.input.len() - self.done > MAX_REQUEST {
+            return false;
+        }
+        self.may_answer()
+    }
+
+    /// Returns whether the connection is over: its last reply was taken, and that reply ended it; or its client ended
+    /// it with less than a request left.
+    pub fn is_over(&self) -> bool
+        ensures over { IsTrue result → IsOver self.now }
+        ensures not_over { IsFalse result → IsOver self.now → ⊥ }
+    {
+        if !self.closing && !self.is_cut_short() {
+            return false;
+        }
+        if !self.is_logged() {
+            return false;
+        }
+        self.is_drained()
+    }
+
+    /// Returns whether the client will send no more, and less than a request is left.
+    fn is_cut_short(&self) -> bool
+        ensures yes { IsTrue result → (self.now.ended ≡ true) × (length self.now.input < self.now.needed) }
+        ensures no { IsFalse result → (self.now.ended ≡ true) × (length self.now.input < self.now.needed) → ⊥ }
+    {
+        if !self.ended {
+            return false;
+        }
+        self.lacks_bytes()
+    }
+
+    /// Returns whether there are fewer bytes of input than a request is known to need.
+    fn lacks_bytes(&self) -> bool
+        ensures yes { IsTrue result → length self.now.input < self.now.needed }
+        ensures no { IsFalse result → length self.now.input < self.now.needed → ⊥ }
+    {
+        self.input.len() - self.done < self.needed
+    }
+
+    /// Returns whether a connection is here that may be closed for the reason `why`.
+    pub fn may_close(&self, why: Reason) -> bool
+        ensures may { IsTrue result → MayClose why self.now }
+        ensures may_not { IsFalse result → MayClose why self.now → ⊥ }
+    {
+        if !self.open {
+            return false;
+        }
+        match why {
+            Reason::Over => self.is_over(),
+            Reason::Broken => self.is_logged(),
+            Reason::Unlogged => self.is_unlogged(),
+            Reason::Uncommitted => self.is_uncommitted(),
+            Reason::Expired(idle, now) => self.is_logged() && self.is_expired(idle, now),
+            Reason::MadeRoom(now) => self.is_logged() && self.may_make_room(now),
+        }
+    }
+
+    /// Returns whether at the time `now` no byte came or was taken for `millis` milliseconds.
+    fn is_silent(&self, millis: u64, now: u64) -> bool
+        ensures yes { IsTrue result → self.now.since + millis ≤ now }
+        ensures no { IsFalse result → self.now.since + millis ≤ now → ⊥ }
+    {
+        now >= self.since && now - self.since >= millis
+    }
+
+    /// Returns whether a request is under way, and is not whole when it is due.
+    fn is_late(&self, now: u64) -> bool
+        ensures yes { IsTrue result → IsLate now self.now }
+        ensures no { IsFalse result → IsLate now self.now → ⊥ }
+    {
+        if !self.has_request() {
+            return false;
+        }
+        now >= self.began && now - self.began >= self.time_of_request()
+    }
+
+    /// Returns whether a request is under way.
+    fn has_request(&self) -> bool
+        ensures yes { IsTrue result → (0 < length self.now.input) × (self.now.output ≡ []) }
+        ensures no { IsFalse result → (0 < length self.now.input) × (self.now.output ≡ []) → ⊥ }
+    {
+        if self.input.len() == self.done {
+            return false;
+        }
+        self.is_drained()
+    }
+
+    /// Returns the milliseconds that the request under way has in all.
+    fn time_of_request(&self) -> u64
+        ensures { result ≡ REQUEST_MILLIS + (length self.now.input - MAX_READ) / BYTES_PER_MILLI }
+    {
+        let size = self.input.len() - self.done;
+        let more = (size.saturating_sub(MAX_READ) / BYTES_PER_MILLI) as u64;
+        REQUEST_MILLIS + more
+    }
+
+    /// Returns the milliseconds from `now` until the request under way is late, if there is one.
+    fn wait_late(&self, now: u64) -> Option<u64>
+        ensures { IsFirstAfter now (λ t. IsLate t self.now) result }
+    {
+        if !self.has_request() {
+            return None;
+        }
+        Some(until(self.began, self.time_of_request(), now))
+    }
+
+    /// Returns the milliseconds from `now` until the connection is idle for long enough to make room, if it is idle.
+    fn wait_idle(&self, now: u64) -> Option<u64>
+        ensures { IsFirstAfter now (λ t. IsIdleFor ROOM_MILLIS t self.now) result }
+    {
+        if !self.has_nothing() {
+            return None;
+        }
+        Some(until(self.since, ROOM_MILLIS, now))
+    }
+
+    /// Returns the milliseconds from `now` until the connection is expired, with a limit of `idle` milliseconds.
+    fn wait_expired(&self, idle: u64, now: u64) -> Option<u64>
+        ensures { IsFirstAfter now (λ t. IsExpired idle t self.now) result }
+    {
+        if idle == 0 {
+            return None;
+        }
+        sooner(Some(until(self.since, idle, now)), self.wait_late(now))
+    }
+
+    /// Returns the milliseconds from `now` until the connection may make room for another.
+    fn wait_room(&self, now: u64) -> Option<u64>
+        ensures { IsFirstAfter now (λ t. IsIdleFor ROOM_MILLIS t self.now ⊎ IsLate t self.now) result }
+    {
+        sooner(self.wait_idle(now), self.wait_late(now))
+    }
+
+    /// Returns the milliseconds from `now` until the connection is over the limit, if it will be as it stands.
+    pub fn wait(&self, limit: Limit, now: u64) -> Option<u64>
+        ensures { IsFirstAfter now (λ t. MayClose (reason_at limit t) self.now) result }
+    {
+        if !self.open {
+            return None;
+        }
+        if !self.is_logged() {
+            return None;
+        }
+        match limit {
+            Limit::Expiry(idle) => self.wait_expired(idle, now),
+            Limit::Room => self.wait_room(now),
+        }
+    }
+
+    /// Returns the time since which the connection has the claim to make room, if it has it at the time `now`.
+    pub fn claimed_since(&self, claim: Claim, now: u64) -> Option<u64>
+        ensures { MatchOption result (HasClaim claim now self.now → ⊥)
+            (λ time. HasClaim claim now self.now × (time ≡ claimed claim self.now)) }
+    {
+        if !self.may_close(Reason::MadeRoom(now)) {
+            return None;
+        }
+        match claim {
+            Claim::Idle => {
+                if !self.is_idle(ROOM_MILLIS, now) {
+                    return None;
+                }
+                Some(self.since)
+            }
+            Claim::Late => {
+                if !self.is_late(now) {
+                    return None;
+                }
+                Some(self.began + self.time_of_request())
+            }
+        }
+    }
+
+    /// Returns whether the connection is over a limit of `idle` milliseconds at the time `now`: for so long no byte
+    /// came or was taken, or a request is late. 0 is no limit.
+    fn is_expired(&self, idle: u64, now: u64) -> bool
+        ensures yes { IsTrue result → IsExpired idle now self.now }
+        ensures no { IsFalse result → IsExpired idle now self.now → ⊥ }
+    {
+        idle > 0 && (self.is_silent(idle, now) || self.is_late(now))
+    }
+
+    /// Returns whether nothing is under way, and at the time `now` no byte came or was taken for `millis` milliseconds.
+    pub fn is_idle(&self, millis: u64, now: u64) -> bool
+        ensures yes { IsTrue result → IsIdleFor millis now self.now }
+        ensures no { IsFalse result → IsIdleFor millis now self.now → ⊥ }
+    {
+        if !self.has_nothing() {
+            return false;
+        }
+        self.is_silent(millis, now)
+    }
+
+    /// Returns whether neither a request nor a reply is under way.
+    fn has_nothing(&self) -> bool
+        ensures yes { IsTrue result → (length self.now.input ≡ 0) × (self.now.output ≡ []) }
+        ensures no { IsFalse result → (length self.now.input ≡ 0) × (self.now.output ≡ []) → ⊥ }
+    {
+        if self.input.len() > self.done {
+            return false;
+        }
+        self.is_drained()
+    }
+
+    /// Returns whether the connection may make room for another at the time `now`.
+    fn may_make_room(&self, now: u64) -> bool
+        ensures yes { IsTrue result → IsIdleFor ROOM_MILLIS now self.now ⊎ IsLate now self.now }
+        ensures no { IsFalse result → IsIdleFor ROOM_MILLIS now self.now ⊎ IsLate now self.now → ⊥ }
+    {
+        self.is_idle(ROOM_MILLIS, now) || self.is_late(now)
+    }
+
+    /// Returns whether the log got only a proper prefix of the line of the last reply.
+    fn is_unlogged(&self) -> bool
+        ensures { IsTrue result ↔ (self.now.stage ≡ Stage.Unlogged) }
+    {
+        match self.stage {
+            Stage::Unlogged => true,
+            Stage::Made | Stage::Committed | Stage::Logged | Stage::Uncommitted => false,
+        }
+    }
+
+    /// Returns whether the commit of the last reply failed.
+    fn is_uncommitted(&self) -> bool
+        ensures { IsTrue result ↔ (self.now.stage ≡ Stage.Uncommitted) }
+    {
+        match self.stage {
+            Stage::Uncommitted => true,
+            Stage::Made | Stage::Committed | Stage::Logged | Stage::Unlogged => false,
+        }
+    }
+
+    /// Returns the number of bytes for which memory is reserved.
+    pub fn spare(&self) -> usize
+        ensures { result ≡ self.now.spare }
+    {
+        self.spare
+    }
+
+    /// Reserves memory for one read.
+    ///
+    /// # Errors
+    ///
+    /// - `AllocError`: an allocation failed; the connection is unchanged.
+    pub fn reserve(&mut self) -> Result<(), AllocError>
+        requires { MayRead self.old }
+        ensures ok { OnOk result (IsChange Reserved self.old self.new) }
+        ensures err { OnErr result (self.new ≡ self.old) }
+    {
+        if self.done > 0 {
+            drop_front(&mut self.input, self.done);
+            self.done = 0;
+        }
+        let more = self.missing();
+        self.input.reserve(more.saturating_add(MAX_READ))?;
+        self.spare = MAX_READ;
+        Ok(())
+    }
+
+    /// Returns how many bytes are missing of a long request, if its size is known, so that it is allocated once.
+    fn missing(&self) -> usize {
+        if self.stays_short() {
+            return 0;
+        }
+        self.needed.saturating_sub(self.input.len())
+    }
+
+    /// Returns whether the connection, with memory for one more read, holds at most `MAX_SHORT` bytes.
+    pub fn stays_short(&self) -> bool
+        ensures { IsTrue result ↔ (length self.now.input + MAX_READ ≤ MAX_SHORT) }
+    {
+        self.input.len() - self.done <= MAX_SHORT - MAX_READ
+    }
+
+    /// Returns whether the connection holds more than `MAX_SHORT` bytes, with those for which memory is reserved.
+    pub fn is_long(&self) -> bool
+        ensures { result ≡ is_long self.now }
+    {
+        self.input.len() - self.done + self.spare > MAX_SHORT
+    }
+
+    /// Frees the memory of a long request that is answered.
+    fn free_input(&mut self)
+        ensures { self.new ≡ self.old }
+    {
+        if self.input.capacity() <= MAX_SHORT {
+            return;
+        }
+        drop_front(&mut self.input, self.done);
+        self.done = 0;
+        self.input.shrink_to(self.input.len() + self.spare);
+    }
+
+    /// Frees the memory of a long reply that is taken.
+    fn free_output(&mut self)
+        ensures { self.new ≡ self.old }
+    {
+        if self.output.capacity() <= MAX_SHORT || self.sent < self.output.len() {
+            return;
+        }
+        self.output.clear();
+        self.sent = 0;
+        self.output.shrink_to(REPLY_ROOM);
+    }
+
+    /// Returns whether the connection may be read from, and there are bytes, for which memory is reserved.
+    pub fn may_read_bytes(&self, bytes: &[u8]) -> bool
+        ensures may { IsTrue result → MayReadBytes bytes.now self.now }
+        ensures may_not { IsFalse result → MayReadBytes bytes.now self.now → ⊥ }
+    {
+        if !self.may_read() {
+            return false;
+        }
+        !bytes.is_empty() && bytes.len() <= self.spare
+    }
+
+    /// Adds bytes that came at the time `now`.
+    pub fn arrive(&mut self, bytes: &[u8], now: u64)
+        requires may { MayReadBytes bytes.now self.old }
+        ensures { IsChange (Came bytes.now now) self.old self.new }
+    {
+        if self.input.len() == self.done {
+            self.began = now;
+        }
+        self.since = now;
+        self.spare -= bytes.len();
+        self.input.extend_from_slice(bytes).unwrap();
+    }
+
+    /// Notes that the client will send no more.
+    pub fn end(&mut self)
+        requires { MayRead self.old }
+        ensures { IsChange Ended self.old self.new }
+    {
+        self.ended = true;
+    }
+
+    /// Answers the request at the front of the input if it is whole and one may be answered; returns whether it did.
+    /// Does not ask the service while there are fewer bytes than it said to need.
+    pub fn turn<S: Service>(&mut self, service: &mut S) -> bool
+        requires { StaysUnfinished S.is_unfinished self.old.input self.old.needed }
+        ensures answered { IsTrue result → IsTurn S.answers S.lines S.commits S.commit_fails
+            self.old service.old self.new service.new }
+        ensures idle { IsFalse result → IsIdle S.is_unfinished self.old self.new × (service.new ≡ service.old) }
+    {
+        if !self.may_answer() {
+            return false;
+        }
+        if self.lacks_bytes() {
+            return false;
+        }
+        self.output.clear();
+        self.sent = 0;
+        self.line.clear();
+        match service.answer(&self.input[self.done..], &mut self.output, &mut self.line) {
+            Outcome::Answered(size, closes) => {
+                self.done += size;
+                self.closing = closes;
+                self.stage = Stage::Made;
+                self.needed = 0;
+                self.began = self.since;
+                true
+            }
+            Outcome::Unfinished(needed) => {
+                self.needed = needed;
+                false
+            }
+        }
+    }
+
+    /// Notes that the service committed its replies.
+    pub fn commit(&mut self)
+        ensures { self.new ≡ committed self.old }
+    {
+        match self.stage {
+            Stage::Made => self.stage = Stage::Committed,
+            Stage::Committed | Stage::Logged | Stage::Uncommitted | Stage::Unlogged => {}
+        }
+        self.free_input();
+    }
+
+    /// Notes that the service failed to commit its replies.
+    pub fn fail_commit(&mut self)
+        ensures { self.new ≡ uncommitted self.old }
+    {
+        match self.stage {
+            Stage::Made => self.stage = Stage::Uncommitted,
+            Stage::Committed | Stage::Logged | Stage::Uncommitted | Stage::Unlogged => {}
+        }
+    }
+
+    /// Returns whether the log is to get the line of the last reply.
+    pub fn is_committed(&self) -> bool
+        ensures { IsTrue result ↔ (self.now.stage ≡ Stage.Committed) }
+    {
+        match self.stage {
+            Stage::Committed => true,
+            Stage::Made | Stage::Logged | Stage::Uncommitted | Stage::Unlogged => false,
+        }
+    }
+
+    /// Writes the line of the committed reply to the log; returns whether the log got the whole line.
+    pub fn write_line<L: Log>(&mut self, log: &mut L) -> bool
+        requires { self.old.stage ≡ Stage.Committed }
+        ensures written { IsTrue result → IsChange (Logged self.old.line) self.old self.new
+            × L.writes log.old self.old.line log.new }
+        ensures cut_off { IsFalse result → IsChange (CutOff self.old.line) self.old self.new
+            × L.cuts log.old self.old.line log.new }
+    {
+        match log.write_line(self.line.as_slice()) {
+            Ok(()) => {
+                self.stage = Stage::Logged;
+                true
+            }
+            Err(_) => {
+                self.stage = Stage::Unlogged;
+                false
+            }
+        }
+    }
+
+    /// Returns whether the last reply may go out.
+    pub fn may_take(&self) -> bool
+        ensures may { IsTrue result → MayTake self.now }
+        ensures may_not { IsFalse result → MayTake self.now → ⊥ }
+    {
+        if !self.open {
+            return false;
+        }
+        self.is_logged()
+    }
+
+    /// Returns whether a writer that takes the first `count` bytes of the reply, or all if there are fewer, takes any.
+    pub fn may_take_some(&self, count: usize) -> bool
+        ensures may { IsTrue result → MayTakeSome count self.now }
+        ensures may_not { IsFalse result → MayTakeSome count self.now → ⊥ }
+    {
+        if !self.may_take() {
+            return false;
+        }
+        if count == 0 {
+            return false;
+        }
+        !self.is_drained()
+    }
+
+    /// Notes that the writer took the first `count` bytes of the reply, or all if there are fewer, at the time `now`.
+    pub fn take(&mut self, count: usize, now: u64)
+        requires { MayTakeSome count self.old }
+        ensures { IsChange (Took (take count self.old.output) now) self.old self.new }
+    {
+        let left = self.output.len() - self.sent;
+        self.sent += count.min(left);
+        self.since = now;
+        self.began = now;
+        self.free_output();
+    }
+
+    /// Closes the connection, and frees its memory.
+    pub fn close(&mut self)
+        ensures { self.new ≡ fresh false 0 }
+    {
+        self.clear(false, 0);
+        self.free_input();
+        self.free_output();
+    }
+}
+
+/// Removes the first `count` bytes.
+fn drop_front(bytes: &mut Vec<u8>, count: usize)
+    requires { count ≤ vec_len bytes.old }
+    ensures items { bytes.new.items ≡ drop count bytes.old.items }
+    ensures len { vec_len bytes.new + count ≡ vec_len bytes.old }
+    ensures capacity { vec_capacity bytes.new ≡ vec_capacity bytes.old }
+{
+    let left = bytes.len() - count;
+    bytes.copy_within(count.., 0);
+    bytes.truncate(left);
+}

@@ -1,0 +1,14 @@
+//! Tests of `connections`: a small service over bytes and a log in memory, either of which fails as planned. They meet
+//! the traits of `connections`. What a table holds after a script of events is compared with what was written by hand.
+#![tactic(auto)]
+
+mod counter;
+mod lines;
+mod places;
+
+pub use counter::Counter;
+pub use lines::Lines;
+pub use places::{event_of, play, ready_table};
+
+#[cfg(test)]
+mod tables;
