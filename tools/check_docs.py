@@ -38,7 +38,7 @@ import command_line  # noqa: E402
 import made_docs  # noqa: E402
 import where_it_stands  # noqa: E402
 
-TESTS = re.compile(r"_tests$|^rows$|^site_rows$")
+TESTS = re.compile(r"^test_")
 # statuses of no error, or in addition to a code of the site
 BESIDE_CODES = {"200", "409", "422", "503"}
 INSIDE = re.compile(r"(?<![\w/.])((?:specs|proofs|src|must-fail|mutants)/[\w./-]*\w)(?![\w*])")

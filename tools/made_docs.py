@@ -30,7 +30,7 @@ import definitions as specs  # noqa: E402
 
 TOP = specs.TOP
 WIDTH = 100
-TESTS = re.compile(r"_tests$|^rows$|^site_rows$")
+TESTS = re.compile(r"^test_")
 ITEM = re.compile(r"^pub (?:const )?(?P<kind>fn|struct|enum|trait|const|type) (?P<name>\w+)")
 METHOD = re.compile(r"^    (?P<pub>pub )?(?:const )?fn (?P<name>\w+)")
 IMPL = re.compile(r"^impl(?:<.*?>)? (?:(?P<trait>[\w:]+)(?:<.*>)? for )?(?P<type>\w+)")

@@ -58,7 +58,7 @@ def about_code(crate, name, clause):
 
 def about_test(test):
     table, _, heading = test.partition(": ")
-    path = "crates/rows/stdin" if table == "rows" else f"rows/{table}.txt"
+    path = "crates/test_calls/stdin" if table == "rows" else f"rows/{table}.txt"
     text = text_of(path)
     if text is None:
         yield f"expected {path}, got no such file"

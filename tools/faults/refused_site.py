@@ -3,7 +3,7 @@
 
     tools/faults/refused_site.py PROGRAM [FIRST LAST]   (default: from the first allocation to the last one)
 
-The inputs and their replies are rows of one part of crates/site_rows/stdout. An input whose reply has code 1 has changed
+The inputs and their replies are rows of one part of crates/test_sites/stdout. An input whose reply has code 1 has changed
 nothing, or has applied exactly as many updates as the reply says; one whose connection ended without a reply has changed
 nothing. Each is then given once more: that reply, and all later ones, are those of a run with ample memory. If an
 allocation fails before the program listens, it ends with an error. After the rows comes one more put. Then an answer
@@ -28,7 +28,7 @@ from rows.sites import Reply, input_of  # noqa: E402
 from rows.texts import rows_of  # noqa: E402
 from runs import Link, Served  # noqa: E402
 
-TABLE = f"{TOP}/crates/site_rows/stdout"
+TABLE = f"{TOP}/crates/test_sites/stdout"
 HEADING = "\n# each allocation refused"
 KINDS = ("replies of code 1", "messages cut short", "connections ended", "ends with an error", "not noticed")
 DROPPED = "caches dropped"

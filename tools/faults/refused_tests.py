@@ -1,7 +1,7 @@
 #!/usr/bin/env python3
 """Runs tests of a built test program. In each run another allocation fails: the first, the second, and so on.
 
-    tools/faults/refused_tests.py PROGRAM        (the gate leaves crates/library_tests/out/library_tests_tests)
+    tools/faults/refused_tests.py PROGRAM        (the gate leaves crates/test_library/out/test_library_tests)
 
 These are the tests with `refused` in their names. If an allocation fails, such a test demands the state that the
 contract of the call states, and then that the same call succeeds. So each run passes. The last run is the first in

@@ -2,7 +2,7 @@
 
     python3 tools/rows PROGRAM [TABLE ..]        all tables of rows/, or the named ones
 
-A table rows/NAME.txt (for `sites` crates/site_rows/stdout) is plain text. An empty line, or one that begins with `#`,
+A table rows/NAME.txt (for `sites` crates/test_sites/stdout) is plain text. An empty line, or one that begins with `#`,
 is a heading; every other line is `WORD TEXT  ->  EXPECTED`, split at its last arrow. (The tables `merge`, `pull`
 and `exchange` have blocks of lines instead.) KINDS has the class that answers the rows of each table, and explains each word. Tables
 run in parallel, as many as there are processors; the rows of a table run in order. The last line is `N passed, M
@@ -32,7 +32,7 @@ KINDS = {
     **sound.KINDS,
 }
 # tables outside rows/, whose rows a program of the gate also prints
-ELSEWHERE = {"sites": "crates/site_rows/stdout"}
+ELSEWHERE = {"sites": "crates/test_sites/stdout"}
 # how many characters of a text are shown
 SHOWN = 200
 # how long a wrong row may take, in seconds, before the rows after it are skipped: they would hang too

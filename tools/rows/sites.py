@@ -632,7 +632,7 @@ class Sites(Served):
       `delete_policy ID`, `put_entity JSON`, `delete_entity TYPE ID`, `take MESSAGE`, `authorize JSON`, `get_policy ID`,
       `state`, `summary`, `delta SUMMARY`.
 
-    The program `site_rows` prints the same table. Its other rows, of contexts, worlds, streams, inputs that end early and
+    The program `test_sites` prints the same table. Its other rows, of contexts, worlds, streams, inputs that end early and
     measures, are skipped here.
     """
 

@@ -14,8 +14,6 @@ mod relatives;
 mod whole_graph;
 
 pub use ancestor_cache::AncestorCache;
-pub use ancestor_search::laws::paths_are_decided;
-pub use ancestor_search::{Ancestry, Graph, Hierarchy, ParentsOf, Searched, would_cycle};
 pub use budget::CacheBudget;
 pub use changing::{add_entries, follow, parents_by};
 pub use children::add_to_all;
@@ -23,3 +21,6 @@ pub use closed::Closed;
 pub use cycles::{are_none, members};
 pub use lists::{is_in, lent, list_within, shared_all};
 pub use relatives::{Relatives, ancestors_at, shared, write_list};
+
+// of this layer
+pub use ancestor_search::{Ancestry, Hierarchy, ParentsOf, Searched, would_cycle};

@@ -1,3 +1,3 @@
 mod RefusalLemmas
--- crates below, passed on to those above
+-- of lower layers
 pub use Rattle.entity_uids.proofs as of_entity_uids

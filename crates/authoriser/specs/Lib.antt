@@ -3,7 +3,7 @@ pub mod Parts
 pub mod Laws
 pub mod Views
 pub mod inner
--- Specifications of lower crates, re-exported.
+-- of lower layers
 pub use Rattle.evaluator.specs as evaluator
 pub use Rattle.evaluator.specs.ancestor_search
 pub use Rattle.grammar_core.specs as grammar_core

@@ -14,5 +14,3 @@ pub mod RequestLemmas
 pub mod StatedArrays
 pub mod StatedDecided
 pub mod StoreLemmas
--- crates below, passed on to those above
-pub use Rattle.json_words.proofs as of_json_words

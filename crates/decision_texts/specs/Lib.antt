@@ -10,10 +10,9 @@ pub mod BareEntities
 pub mod StatedDecisions
 pub mod DecisionLaws
 pub mod inner
--- Specifications of lower crates, re-exported.
+-- of this layer
 pub use Rattle.answer_lines.specs as answer_lines
+-- of lower layers
 pub use Rattle.answer_lines.specs.authoriser
-pub use Rattle.answer_lines.specs.entity_uids
 pub use Rattle.answer_lines.specs.policy_grammar
 pub use Rattle.entity_data.specs as entity_data
-pub use Rattle.json_words.specs as json_words

@@ -7,9 +7,9 @@ use Rattle.serde_json.specs.Data.{Data, object, array, Members, no_members, memb
 use Rattle.serde_json.specs.View.{items_of}
 use Rattle.values.specs.Values.{fields_of}
 use Rattle.values.specs.declared.entity_uid.EntityUid.{EntityUid}
-use Rattle.entities.specs.entity_uids.Tokens.{AppendsTokens, tokens_of, AppendsValue}
-use Rattle.entities.specs.entity_uids.Uids.{uid_json}
-use Rattle.entities.proofs.of_entity_uids.Nested.{object_begun, member_next, member_written, object_ended}
+use Rattle.entity_uids.specs.Tokens.{AppendsTokens, tokens_of, AppendsValue}
+use Rattle.entity_uids.specs.Uids.{uid_json}
+use Rattle.entity_uids.proofs.Nested.{object_begun, member_next, member_written, object_ended}
 use Rattle.entities.specs.CanonicalValues.{fields_json}
 use Rattle.entity_data.specs.declared.entity.Entity.{Entity}
 use Rattle.entities.specs.Canonical.{canonical_json}

@@ -15,8 +15,8 @@ use Rattle.values.specs.declared.entity_uid.EntityUid.{EntityUid}
 use Rattle.values.specs.Values.{fields_of}
 use Rattle.values.specs.Fields.{Field}
 use Rattle.entity_data.specs.ancestor_search.Hierarchy.{IsAscending}
-use Rattle.entities.specs.entity_uids.Uids.{IsPlainUid, IsUid, IsUnderEntity, IsRead, uid_in, uid_json}
-use Rattle.entities.specs.entity_uids.Laws.{OneUid, UidsAreFound, WrittenIsRead}
+use Rattle.entity_uids.specs.Uids.{IsPlainUid, IsUid, IsUnderEntity, IsRead, uid_in, uid_json}
+use Rattle.entity_uids.specs.Laws.{OneUid, UidsAreFound, WrittenIsRead}
 use Rattle.schema_types.specs.Cedar.{Cedar, deep, IsTooLarge}
 use Rattle.schema.specs.Schemas.{StatedSchema}
 use Rattle.schema.specs.WellFormed.{IsWellFormed}

@@ -22,8 +22,8 @@ use Rattle.values.proofs.of_extensions.CanonicalNetworks.{one_network}
 use Rattle.values.specs.declared.entity_uid.EntityUid.{EntityUid}
 use Rattle.values.specs.Values as value
 use Rattle.values.specs.Values.{PlainValue}
-use Rattle.entities.specs.entity_uids.Uids.{IsUid, IsRead, uid_in, plain_uid_in}
-use Rattle.entities.specs.entity_uids.Laws.{OneUid, UidsAreFound}
+use Rattle.entity_uids.specs.Uids.{IsUid, IsRead, uid_in, plain_uid_in}
+use Rattle.entity_uids.specs.Laws.{OneUid, UidsAreFound}
 use Rattle.entities.specs.declared.value_fault.ValueFault.TheVariants.{WrongType}
 use Rattle.schema_types.specs.Cedar as type
 use Rattle.schema_types.specs.Cedar.{Cedar}

@@ -37,5 +37,3 @@ mod Passing
 mod Sets
 mod Walk
 mod Written
--- crates below, passed on to those above
-pub use Rattle.entity_uids.proofs as of_entity_uids

@@ -17,7 +17,7 @@ use Rattle.values.specs.declared.entity_uid.EntityUid.{EntityUid}
 use Rattle.values.specs.Fields.{Field}
 use Rattle.values.specs.Names.{uid_cmp}
 use Rattle.values.specs.Values.{fields_of}
-use Rattle.entities.specs.entity_uids.Uids.{uid_in, uid_json}
+use Rattle.entity_uids.specs.Uids.{uid_in, uid_json}
 use Rattle.schema.specs.Schemas.{StatedSchema}
 use Rattle.entities.specs.declared.value_fault.ValueFault.{ValueFault}
 use Rattle.entities.specs.Typing.{record_in}

@@ -22,7 +22,7 @@ use Rattle.values.specs.extensions.declared.ip_net.Version.{Version}
 use Rattle.values.specs.extensions.declared.ip_net.Version.TheVariants.{V4, V6}
 use Rattle.values.specs.declared.entity_uid.EntityUid.{EntityUid}
 use Rattle.values.specs.Paths.{is_path}
-use Rattle.entities.specs.entity_uids.Uids.{uid_made_of, plain_uid_in, uid_under, uid_in, uid_json, entity_json}
+use Rattle.entity_uids.specs.Uids.{uid_made_of, plain_uid_in, uid_under, uid_in, uid_json, entity_json}
 use Rattle.entities.specs.Typing.{is_long}
 use Rattle.entities.specs.CanonicalValues.{call_json}
 use Rattle.entities.specs.Texts.{HasUtf8, MembersHaveUtf8}

@@ -22,7 +22,7 @@ use Rattle.values.specs.ValueOrder.{value_cmp}
 use Rattle.values.specs.Sets.{put_value, set_list}
 use Rattle.schema_types.specs.Cedar as cedar
 use Rattle.schema_types.specs.Cedar.{Cedar, CedarFields}
-use Rattle.entities.specs.entity_uids.Uids.{uid_in}
+use Rattle.entity_uids.specs.Uids.{uid_in}
 use Rattle.entities.specs.declared.value_fault.ValueFault.{ValueFault}
 use Rattle.entities.specs.declared.value_fault.ValueFault.TheVariants.{WrongType, Undeclared, Missing}
 use Rattle.entities.specs.Parts.{element_of, fields_in, declared_at}

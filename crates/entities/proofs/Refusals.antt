@@ -14,7 +14,7 @@ use Rattle.values.specs.Values.{PlainValue, PlainFields, values_of, fields_of, p
 use Rattle.values.specs.Fields.{Field}
 use Rattle.values.specs.Sets.{set_list}
 use Rattle.values.specs.extensions.TextsDecided.{decimal_of, network_of}
-use Rattle.entities.specs.entity_uids.Uids.{uid_in}
+use Rattle.entity_uids.specs.Uids.{uid_in}
 use Rattle.entities.specs.declared.value_fault.ValueFault.{ValueFault}
 use Rattle.entities.specs.declared.value_fault.ValueFault.TheVariants.{WrongType, Undeclared, Missing}
 use Rattle.schema_types.specs.Cedar as type

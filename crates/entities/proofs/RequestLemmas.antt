@@ -8,8 +8,8 @@ use Rattle.json_words.specs.ReadsAs.{Fails}
 use Rattle.values.specs.declared.entity_uid.EntityUid.{EntityUid}
 use Rattle.values.specs.Fields.{Field}
 use Rattle.schema.specs.Schemas.{StatedSchema}
-use Rattle.entities.specs.entity_uids.Uids.{NamesEntity}
-use Rattle.entities.specs.entity_uids.Laws.{OneName}
+use Rattle.entity_uids.specs.Uids.{NamesEntity}
+use Rattle.entity_uids.specs.Laws.{OneName}
 use Rattle.entities.specs.declared.fault.EntityFault.{EntityFault}
 use Rattle.entities.specs.declared.fault.EntityFault.TheVariants.{NoMemory, BadShape}
 use Rattle.entities.specs.declared.requests.Asked.{Asked}

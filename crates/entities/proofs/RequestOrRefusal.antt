@@ -6,11 +6,11 @@ use Rattle.serde_json.specs.Find.{get, as_str}
 use Rattle.values.specs.declared.entity_uid.EntityUid.{EntityUid}
 use Rattle.values.specs.declared.request.Request.{Request}
 use Rattle.values.specs.Fields.{Field}
-use Rattle.entities.specs.policy_grammar.declared.fault.ReadFault.{ReadFault}
-use Rattle.entities.specs.policy_grammar.PolicyText.{IsUidText, IsUidRefused}
-use Rattle.entities.specs.policy_grammar.Unique.{HasOneReading}
-use Rattle.entities.specs.entity_uids.Uids.{IsUid, NamesEntity, IsRead, uid_in}
-use Rattle.entities.specs.entity_uids.Laws.{UidsAreFound}
+use Rattle.entity_uids.specs.policy_grammar.declared.fault.ReadFault.{ReadFault}
+use Rattle.entity_uids.specs.policy_grammar.PolicyText.{IsUidText, IsUidRefused}
+use Rattle.entity_uids.specs.policy_grammar.Unique.{HasOneReading}
+use Rattle.entity_uids.specs.Uids.{IsUid, NamesEntity, IsRead, uid_in}
+use Rattle.entity_uids.specs.Laws.{UidsAreFound}
 use Rattle.schema.specs.Schemas.{StatedSchema}
 use Rattle.entities.specs.declared.fault.EntityFault.{EntityFault}
 use Rattle.entities.specs.declared.fault.EntityFault.TheVariants.{BadShape}

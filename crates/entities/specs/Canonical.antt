@@ -7,7 +7,7 @@ use Rattle.serde_json.specs.Data.{Data, object, array, no_members, member}
 use Rattle.serde_json.specs.View.{items_of}
 use Rattle.serde_json.specs.Written.{compact_text}
 use Rattle.values.specs.Values.{fields_of}
-use Rattle.entities.specs.entity_uids.Uids.{uid_json}
+use Rattle.entity_uids.specs.Uids.{uid_json}
 use Rattle.entities.specs.CanonicalValues.{fields_json}
 use Rattle.entity_data.specs.declared.entity.Entity.{Entity}
 

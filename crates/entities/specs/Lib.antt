@@ -17,12 +17,13 @@ pub mod ValueLaws
 pub mod Parts
 pub mod ValueTexts
 pub mod Typing
--- Specifications of lower crates, re-exported.
+-- of this layer
 pub use Rattle.entity_data.specs as entity_data
-pub use Rattle.entity_data.specs.ancestor_search
-pub use Rattle.schema.specs as schema
-pub use Rattle.schema.specs.schema_file
-pub use Rattle.schema.specs.schema_names
-pub use Rattle.schema_types.specs as schema_types
 pub use Rattle.entity_uids.specs as entity_uids
+-- of lower layers
+pub use Rattle.entity_data.specs.ancestor_search
+pub use Rattle.entity_data.specs.evaluator_steps
 pub use Rattle.entity_uids.specs.policy_grammar
+pub use Rattle.schema.specs as schema
+pub use Rattle.schema.specs.schema_reading
+pub use Rattle.schema_types.specs as schema_types

@@ -11,7 +11,7 @@ use Rattle.json_words.specs.ReadsAs.{◌>>=◌, or_fault}
 use Rattle.values.specs.declared.entity_uid.EntityUid.{EntityUid}
 use Rattle.values.specs.declared.request.Request.{Request}
 use Rattle.values.specs.Fields.{Field}
-use Rattle.entities.specs.entity_uids.Uids.{NamesEntity}
+use Rattle.entity_uids.specs.Uids.{NamesEntity}
 use Rattle.schema.specs.Schemas.{StatedSchema}
 use Rattle.entities.specs.Typing.{record_in}
 use Rattle.entities.specs.declared.fault.EntityFault.{EntityFault}

@@ -10,7 +10,7 @@ use Rattle.json_words.specs.Each.{list_of}
 use Rattle.values.specs.Fields.{Field}
 use Rattle.values.specs.Values.{record_of, fields_of}
 use Rattle.values.specs.declared.entity_uid.EntityUid.{EntityUid}
-use Rattle.entities.specs.entity_uids.Uids.{IsUid}
+use Rattle.entity_uids.specs.Uids.{IsUid}
 use Rattle.entities.specs.declared.value_fault.ValueFault.{ValueFault}
 use Rattle.entities.specs.declared.value_fault.ValueFault.TheVariants as value
 use Rattle.entity_data.specs.ancestor_search.Hierarchy.{IsAscending}

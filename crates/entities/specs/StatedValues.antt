@@ -17,7 +17,7 @@ use Rattle.values.specs.declared.entity_uid.EntityUid.{EntityUid}
 use Rattle.values.specs.extensions.Network.{Network}
 use Rattle.values.specs.extensions.DecimalText.{IsDecimalText}
 use Rattle.values.specs.extensions.NetworkText.{IsNetworkText}
-use Rattle.entities.specs.entity_uids.Uids.{IsUid}
+use Rattle.entity_uids.specs.Uids.{IsUid}
 use Rattle.entities.specs.declared.value_fault.ValueFault.{ValueFault}
 use Rattle.entities.specs.declared.value_fault.ValueFault.TheVariants.{WrongType, Undeclared, Missing}
 use Rattle.schema_types.specs.Cedar as type

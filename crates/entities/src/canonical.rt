@@ -4,8 +4,8 @@ ghost use Rattle.serde_json.specs.Data.{array, depth};
 ghost use Rattle.serde_json.specs.Read.{max_depth};
 ghost use Rattle.serde_json.specs.View.{items_of};
 ghost use Rattle.json_words.specs.Json.{json_of};
-ghost use Rattle.entities.specs.entity_uids.Tokens.{AppendsValue};
-ghost use Rattle.entities.specs.entity_uids.Uids.{uid_json};
+ghost use Rattle.entity_uids.specs.Tokens.{AppendsValue};
+ghost use Rattle.entity_uids.specs.Uids.{uid_json};
 ghost use Rattle.entities.specs.Canonical.{canonical_json, canonical_text};
 
 use crate::value_writing::write_record;

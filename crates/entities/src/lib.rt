@@ -32,19 +32,10 @@ pub use canonical::canonical_text;
 pub use canonical_laws::{canonical_texts_are_read, json_texts_are_utf8};
 pub use contexts::read_context;
 pub use dropping::{drop_entity, drop_json, drop_request, drop_uid};
-pub use entity_data::{ActionSource, Entities, Entity, EntitySource, EntityStore, NoActions};
-pub use entity_uids::{
-    ActionScope, EntityScope, Policy, Scope, names_read_back, read_name, read_uid,
-    texts_have_one_reading,
-};
 pub use fault::EntityFault;
 pub use laws::{action_type_test_is_exact, entities_read_back, requests_have_one_outcome};
 pub use reading::read_entity;
 pub use requests::read_request;
-pub use schema::{
-    Environment, Schema, SchemaFault, bytes_have_one_outcome, declarations_are_read_as_stated,
-    read_schema, stated_schemas_are_well_formed,
-};
 pub use stated::is_absent_or_object;
 pub use type_parts::{Field, declared_type, element_type, record_fields};
 pub use value_fault::ValueFault;
@@ -53,3 +44,14 @@ pub use value_laws::{
     values_have_no_float, written_is_read_again,
 };
 pub use value_reading::{is_of_type, read_record};
+
+// of this layer
+pub use entity_data::{ActionSource, Entities, Entity, EntitySource, EntityStore, NoActions};
+pub use entity_uids::{names_read_back, read_name, read_uid};
+
+// of lower layers
+pub use entity_uids::{ActionScope, EntityScope, Policy, Scope};
+pub use schema::{
+    Environment, Schema, SchemaFault, bytes_have_one_outcome, declarations_are_read_as_stated,
+    read_schema, stated_schemas_are_well_formed,
+};

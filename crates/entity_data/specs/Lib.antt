@@ -4,6 +4,7 @@ pub mod EntityStores
 pub mod Listing
 pub mod UidSets
 pub mod inner
--- Specifications of lower crates, re-exported.
+-- of lower layers
 pub use Rattle.evaluator.specs as evaluator
 pub use Rattle.evaluator.specs.ancestor_search
+pub use Rattle.evaluator.specs.evaluator_steps

@@ -15,7 +15,9 @@ mod world;
 pub use actions::{ActionSource, NoActions};
 pub use data::EntityData;
 pub use entity::Entity;
-pub use evaluator::ascending_lists_are_one;
 pub use source::EntitySource;
 pub use store::EntityStore;
 pub use world::Entities;
+
+// of lower layers
+pub use evaluator::ascending_lists_are_one;

@@ -7,7 +7,7 @@ use Rattle.values.specs.Names.{uid_cmp}
 use Rattle.authoriser.specs.ancestor_search.Hierarchy.{Parents, Path, IsAncestor, IsOnCycle, no_parents, with_parents}
 use Rattle.authoriser.specs.ancestor_search.Deciding.{Contains-here, Contains-there, Contains-none, same_uid}
 use Rattle.authoriser.specs.ancestor_search.Deciding.{IsAncestor-joined}
-use Rattle.entities.specs.schema_names.Qualifying.{ResolvedAction, ResolvedSchema}
+use Rattle.entities.specs.schema_reading.Qualifying.{ResolvedAction, ResolvedSchema}
 use Rattle.entities.specs.schema.Schemas.{StatedSchema, MatchesDeclarations, IsAction, action_parents}
 use Rattle.entities.specs.schema.Schemas.{with_actions as with_action_parents}
 use Rattle.entities.specs.schema.WellFormed.{IsWellFormed}

@@ -8,7 +8,7 @@ use Rattle.values.specs.Fields.{Field}
 use Rattle.authoriser.specs.ancestor_search.Hierarchy.{Parents, IsOnCycle, with_parents}
 use Rattle.authoriser.specs.ancestor_search.LeastCycle.{HasNoCycle}
 use Rattle.authoriser.specs.evaluator.Operators.{Entities, entities_with}
-use Rattle.entities.specs.schema_names.Qualifying.{ResolvedSchema}
+use Rattle.entities.specs.schema_reading.Qualifying.{ResolvedSchema}
 use Rattle.entities.specs.schema.Schemas.{StatedSchema, IsSchemaOf, action_parents}
 use Rattle.entities.specs.entity_data.declared.entity.Entity.{Entity}
 use Rattle.entities.specs.Entities.{entity_stated_in}

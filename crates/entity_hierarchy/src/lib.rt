@@ -9,16 +9,20 @@ mod laws;
 mod world;
 
 pub use actions::SchemaActions;
-pub use authoriser::{
-    Answer, Lookup, Policy, PreparedRequest, answers_are_lawful, decide, decide_prepared,
-    expressions_have_one_outcome, file_names_differ, paths_are_decided, scopes_do_not_err,
-    texts_have_one_reading,
-};
-pub use entities::{
-    Entity, EntityFault, EntitySource, EntityStore, Schema, bytes_have_one_outcome, canonical_text,
-    declarations_are_read_as_stated, entities_are_read_as_stated, entities_read_back, read_entity,
-    read_request, requests_are_read_as_stated, requests_have_one_outcome,
-    stated_schemas_are_well_formed,
-};
 pub use laws::{actions_may_be_closed, entities_are_no_actions, reach_decides};
 pub use world::{Entities, entity_data_under};
+
+// of this layer
+pub use entities::{
+    Entity, EntityFault, EntitySource, entities_are_read_as_stated, read_entity, read_request,
+    requests_are_read_as_stated, requests_have_one_outcome,
+};
+
+// of lower layers
+pub use authoriser::{
+    Answer, Lookup, Policy, PreparedRequest, answers_are_lawful, decide_prepared,
+    expressions_have_one_outcome, file_names_differ, paths_are_decided, scopes_do_not_err,
+};
+pub use entities::{
+    Schema, bytes_have_one_outcome, declarations_are_read_as_stated, stated_schemas_are_well_formed,
+};

@@ -1,5 +1,5 @@
 pub mod Laws
 pub mod Tokens
 pub mod Uids
--- Specifications of lower crates, re-exported.
+-- of lower layers
 pub use Rattle.policy_grammar.specs as policy_grammar

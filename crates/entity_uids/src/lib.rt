@@ -13,9 +13,11 @@ mod writing;
 
 pub use laws::names_read_back;
 pub use names::read_name;
+pub use uids::{read_uid, read_uids};
+pub use writing::{write_entity, write_uid};
+
+// of lower layers
 pub use policy_grammar::{
     ActionScope, EntityScope, MOST_FILE_BYTES, MOST_ID_BYTES, MOST_POLICY_BYTES, Policy, ReadFault,
     Scope, file_names_differ, parse_policies, parse_policy, texts_have_one_reading,
 };
-pub use uids::{read_uid, read_uids};
-pub use writing::{write_entity, write_uid};

@@ -9,5 +9,3 @@ pub mod Telling
 pub mod TestsTold
 pub mod Variables
 pub mod Wanting
--- crates below, passed on to those above
-pub use Rattle.grammar_core.proofs as of_grammar_core

@@ -5,7 +5,7 @@ pub mod Laws
 pub mod Operators
 pub mod Outcomes
 pub mod inner
--- Specifications of lower crates, re-exported.
-pub use Rattle.ancestor_search.specs as ancestor_search
+-- of this layer
 pub use Rattle.evaluator_steps.specs as evaluator_steps
-pub use Rattle.grammar_core.specs as grammar_core
+-- of lower layers
+pub use Rattle.ancestor_search.specs as ancestor_search

@@ -12,7 +12,7 @@ use Rattle.entities.specs.declared.value_fault.ValueFault.TheVariants as value
 use Rattle.entities.specs.entity_uids.Uids.{uid_in}
 use Rattle.entities.specs.Typing.{with_or, record_in}
 use Rattle.entities.specs.entity_data.UidSets.{uid_set}
-use Rattle.entities.specs.entity_data.ancestor_search.Decided.{is_same}
+use Rattle.entities.specs.ancestor_search.Decided.{is_same}
 use Rattle.entities.specs.entity_data.declared.entity.Entity.{Entity}
 use Rattle.schema_decisions.specs.schema.Schemas.{StatedSchema}
 use Rattle.entities.specs.declared.fault.EntityFault.{EntityFault}

@@ -1,6 +1,6 @@
 -- The explanations of files and of messages are readable, part by part.
 use Rattle.std.proofs.Common.{◌≡◌, inl, inr, ℕ, Bool, List, [], ◌∷◌, ◌++◌, Option, None, Some, sym, subst}
-use Rattle.grammar_desugaring.specs.grammar_tokens.declared.token.Token.{Token}
+use Rattle.grammar_desugaring.specs.grammar_syntax.declared.token.Token.{Token}
 use Rattle.policy_grammar.specs.declared.policy.Policy.{Policy}
 use Rattle.schema_decisions.specs.schema.Schemas.{StatedSchema}
 use Rattle.schema_decisions.specs.answer_lines.declared.refusal.Refusal.{Refusal}

@@ -2,7 +2,7 @@
 use Rattle.std.proofs.Common.{◌≡◌, ◌∙◌, ℕ, ◌+◌, ◌<◌, ◌≤◌, ◌||◌, Bool, false, List, [], ◌∷◌, ◌++◌, map, take, length, get_or}
 use Rattle.std.proofs.Common.{sym, ap, subst, Option, None, String, Global, arith}
 use Rattle.std.proofs.lemmas.List.{take_more, take_all, length-map, length-take-le, map-append}
-use Rattle.grammar_desugaring.specs.grammar_tokens.declared.token.Token.{Token}
+use Rattle.grammar_desugaring.specs.grammar_syntax.declared.token.Token.{Token}
 use Rattle.policy_grammar.specs.declared.policy.Policy.{Policy}
 use Rattle.schema_decisions.specs.schema.Schemas.{StatedSchema}
 use Rattle.schema_decisions.specs.answer_lines.declared.refusal.Refusal.{Refusal}

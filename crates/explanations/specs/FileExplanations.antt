@@ -5,8 +5,8 @@
 use Rattle.std.specs.Prelude.{◌≡◌, ◌⊎◌, ℕ, true, false, List, [], ◌++◌, Option, None, Some, option_map, unwrap_or}
 use Rattle.std.specs.Prelude.{length, codes, decimal}
 use Rattle.std.specs.Str.{IsUtf8, IsValidUpTo}
-use Rattle.grammar_desugaring.specs.grammar_tokens.declared.token.Token.{Token}
-use Rattle.grammar_desugaring.specs.grammar_tokens.Lexing.{IsLexed, IsBadAt}
+use Rattle.grammar_desugaring.specs.grammar_syntax.declared.token.Token.{Token}
+use Rattle.grammar_desugaring.specs.grammar_syntax.Lexing.{IsLexed, IsBadAt}
 use Rattle.policy_grammar.specs.declared.policy.Policy.{Policy}
 use Rattle.schema_decisions.specs.schema.Schemas.{StatedSchema, IsSchemaOf}
 use Rattle.schema_decisions.specs.answer_lines.declared.refusal.Refusal.{Refusal}

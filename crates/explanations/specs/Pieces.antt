@@ -4,9 +4,9 @@
 -- policy that no `;` ends, ends with the text.
 use Rattle.std.specs.Prelude.{◌≡◌, ℕ, Bool, true, false, if◌then◌else◌, List, [], ◌∷◌, ◌++◌}
 use Rattle.std.specs.Prelude.{Option, Some, None, unwrap_or, slice_get}
-use Rattle.grammar_desugaring.specs.grammar_tokens.declared.token.TokenKind.{TokenKind}
-use Rattle.grammar_desugaring.specs.grammar_tokens.declared.token.TokenKind.TheVariants as k
-use Rattle.grammar_desugaring.specs.grammar_tokens.declared.token.Token.{Token}
+use Rattle.grammar_desugaring.specs.grammar_syntax.declared.token.TokenKind.{TokenKind}
+use Rattle.grammar_desugaring.specs.grammar_syntax.declared.token.TokenKind.TheVariants as k
+use Rattle.grammar_desugaring.specs.grammar_syntax.declared.token.Token.{Token}
 use Rattle.explanations.specs.declared.pieces.Piece.{Piece}
 
 -- `is_end kind` tests for `;`, which ends a policy.

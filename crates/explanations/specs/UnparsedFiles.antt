@@ -7,7 +7,7 @@
 use Rattle.std.specs.Prelude.{◌==◌, ◌&&◌, nat_le, ◌<◌, ◌≤◌, ◌⊎◌, codes, length}
 use Rattle.std.specs.Prelude.{◌≡◌, ℕ, ◌+◌, min, Bool, true, false, ◌||◌, List, [], ◌∷◌, ◌++◌, Option, unwrap_or}
 use Rattle.std.specs.Prelude.{find, option_map}
-use Rattle.grammar_desugaring.specs.grammar_tokens.declared.token.Token.{Token}
+use Rattle.grammar_desugaring.specs.grammar_syntax.declared.token.Token.{Token}
 use Rattle.policy_grammar.specs.declared.policy.Policy.{Policy}
 use Rattle.policy_grammar.specs.declared.fault.ReadFault.{ReadFault}
 use Rattle.policy_grammar.specs.Faults.{code_of, place_of}

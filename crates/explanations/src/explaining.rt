@@ -15,9 +15,10 @@ use crate::pieces::{Piece, pieces_of};
 use crate::policies::explain_policies;
 use crate::text_parts::{push_refusal, unless_no_memory};
 use crate::unread::{Lexed, explain_pieces, push_read_fault};
+use entities::Schema;
 use grammar_desugaring::{LexFault, Token, tokens};
 use plain::NoMemory;
-use schema_decisions::{Refusal, Schema, drop_policies, drop_schema, policies_of_file, schema_in};
+use schema_decisions::{Refusal, drop_policies, drop_schema, policies_of_file, schema_in};
 use std::alloc::Global;
 
 /// Returns the tokens of a text; an empty list if at some byte no token begins.

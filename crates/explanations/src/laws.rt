@@ -4,7 +4,8 @@ ghost use Rattle.explanations.specs.Readable.{ExplanationsAreReadable};
 ghost use Rattle.explanations.specs.PathLaws.{ValuesHavePaths, RecordsHavePaths, EntitiesHavePaths};
 ghost use Rattle.explanations.specs.PathLaws.{RequestsHavePaths, EntityPartsHaveOneText, RequestPartsHaveOneText};
 
-use entities::{names_read_back, requests_have_one_outcome, texts_have_one_reading};
+use entities::{names_read_back, requests_have_one_outcome};
+use policy_grammar::texts_have_one_reading;
 
 /// Proves that the explanation of an error, and the text on an error code, have no characters that control a terminal.
 /// Whatever the name and the content of the file, an explanation has no control characters except tabs and line feeds,

@@ -11,8 +11,9 @@ ghost use Rattle.explanations.specs.EntitiesAndRequests.{AreEntitiesExplained, I
 use crate::given::NamedText;
 use crate::part_naming::{entity_part, request_part};
 use crate::text_parts::push_refusal;
+use entities::Schema;
 use plain::NoMemory;
-use schema_decisions::{Refusal, Schema, UnderSchema, check_entities, decide_texts, decide_under};
+use schema_decisions::{Refusal, UnderSchema, check_entities, decide_texts, decide_under};
 use std::alloc::Global;
 
 /// A request that parses without a schema.

@@ -10,9 +10,10 @@ use crate::node_limits::has_at_most;
 use crate::pieces::{Piece, piece_at};
 use crate::source::push_source;
 use crate::text_parts::part_of;
+use entities::Schema;
 use fault_places::{PolicyFault, Span, TypeFault, check, explain_fault, name_span, span_of};
 use plain::NoMemory;
-use schema_decisions::{Policy, Schema};
+use policy_grammar::Policy;
 use std::alloc::Global;
 
 // The greatest length in bytes of a policy that is searched for the expression at fault.

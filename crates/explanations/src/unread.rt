@@ -10,10 +10,11 @@ use crate::pieces::Piece;
 use crate::policies::explain_policies;
 use crate::source::push_source;
 use crate::text_parts::part_of;
+use entities::Schema;
 use grammar_desugaring::Token;
 use plain::NoMemory;
 use policy_grammar::{ReadFault, parse_policies};
-use schema_decisions::{Refusal, Schema, drop_policies};
+use schema_decisions::{Refusal, drop_policies};
 use std::alloc::Global;
 use std::slice;
 

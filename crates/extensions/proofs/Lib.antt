@@ -12,5 +12,5 @@ pub mod GroupTexts
 pub mod Lacks
 pub mod ReadTexts
 pub mod Found
--- crates below, passed on to those above
+-- of lower layers
 pub use Rattle.plain.proofs as of_plain

@@ -6,5 +6,5 @@ pub mod NetworkText
 pub mod Order
 pub mod TextsDecided
 pub mod inner
--- Specifications of lower crates, re-exported.
+-- of lower layers
 pub use Rattle.plain.specs as plain

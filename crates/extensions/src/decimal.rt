@@ -10,8 +10,8 @@ ghost use Rattle.std.specs.Str.Parse.{IsNumeral, digits_value};
 ghost use Rattle.extensions.specs.DecimalText.{IsDecimalText, IsUnsignedText, decimal_text, magnitude_text};
 ghost use Rattle.extensions.specs.TextsDecided.{decimal_of};
 
-use crate::NoMemory;
 use crate::pieces::{append, append_digit, append_whole};
+use plain::NoMemory;
 use std::cmp::Ordering;
 use std::marker::Model;
 

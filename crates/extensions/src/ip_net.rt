@@ -12,9 +12,9 @@ ghost use Rattle.extensions.specs.NetworkText.{IsNetworkText, network_text};
 ghost use Rattle.extensions.specs.Decided.{is_proved};
 ghost use Rattle.extensions.specs.TextsDecided.{network_of, within_decided};
 
-use crate::NoMemory;
 use crate::address_texts::{address_of_text, append_ipv4, append_ipv6, prefix_of_text};
 use crate::pieces::{append, append_decimal_byte};
+use plain::NoMemory;
 use std::cmp::Ordering;
 use std::marker::Model;
 

@@ -12,5 +12,7 @@ mod pieces;
 
 pub use decimal::Decimal;
 pub use ip_net::{IpNet, Version};
+
+// of lower layers
 pub use plain::words::{letter, word_len};
 pub use plain::{NoMemory, Shared, Text};

@@ -5,11 +5,11 @@ use Rattle.std.specs.Option.{option_map}
 use Rattle.std.proofs.lemmas.List.Sums.{fold-append}
 use Rattle.std.proofs.Math.Seq.{take-append_seam}
 use Rattle.std.proofs.Math.Dec.{eqb-suc-zero}
-use Rattle.grammar_trees.specs.grammar_tokens.declared.token.Token.{Token}
-use Rattle.grammar_trees.specs.grammar_tokens.Lang.{Lang, many}
-use Rattle.grammar_trees.specs.declared.tree.ExprTree.{ExprTree, out-ExprTree}
+use Rattle.grammar_syntax.specs.declared.token.Token.{Token}
+use Rattle.grammar_syntax.specs.Lang.{Lang, many}
+use Rattle.grammar_syntax.specs.declared.tree.ExprTree.{ExprTree, out-ExprTree}
 use Rattle.grammar_core.specs.declared.expr.Expr.{Expr}
-use Rattle.grammar_policies.specs.grammar_expressions.Expressions.{any_expr}
+use Rattle.grammar_parsing.specs.Expressions.{any_expr}
 use Rattle.fault_places.specs.TokenCounts.{tree_count, each_count}
 use Rattle.typing.specs.Places.{operands_of}
 use Rattle.policy_grammar.specs.grammar_desugaring.Core.{core_of}

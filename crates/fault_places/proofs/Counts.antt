@@ -2,21 +2,21 @@
 use Rattle.std.specs.Prelude.{◌≡◌, ◌⊎◌, refl, ℕ, ◌+◌, Bool, List, [], ◌∷◌, map}
 use mathlib.Core.Path.{◌∙◌, ap, sym}
 use Rattle.std.proofs.Common.{inl, inr}
-use Rattle.grammar_trees.specs.grammar_tokens.declared.token.Token.{Token}
-use Rattle.grammar_trees.specs.grammar_tokens.declared.tree.PathTree.{PathTree}
-use Rattle.grammar_trees.specs.grammar_tokens.declared.tree.UidTree.{UidTree}
-use Rattle.grammar_trees.specs.declared.tree.Access.{Access}
-use Rattle.grammar_trees.specs.declared.tree.Access.TheVariants as access
-use Rattle.grammar_trees.specs.declared.tree.Comparison.{Comparison}
-use Rattle.grammar_trees.specs.declared.tree.RecordEntry.{RecordEntry}
-use Rattle.grammar_trees.specs.declared.tree.KeyTree.{KeyTree}
-use Rattle.grammar_trees.specs.declared.tree.KeyTree.TheVariants.{Word, Quoted}
-use Rattle.grammar_trees.specs.declared.tree.Term.{Term}
-use Rattle.grammar_trees.specs.declared.tree.ExprTree.{ExprTree}
-use Rattle.grammar_trees.specs.declared.tree.RequestKeyword.{RequestKeyword}
-use Rattle.grammar_trees.specs.declared.tree.ExprTree.TheVariants as t
-use Rattle.grammar_trees.specs.declared.tree.ExprTree.TheOpen.{ExprTree-F as tree}
-use Rattle.grammar_trees.specs.declared.tree.ExprTree.TheFolds.{fold-roll-ExprTree}
+use Rattle.grammar_syntax.specs.declared.token.Token.{Token}
+use Rattle.grammar_syntax.specs.declared.name_trees.PathTree.{PathTree}
+use Rattle.grammar_syntax.specs.declared.name_trees.UidTree.{UidTree}
+use Rattle.grammar_syntax.specs.declared.tree.Access.{Access}
+use Rattle.grammar_syntax.specs.declared.tree.Access.TheVariants as access
+use Rattle.grammar_syntax.specs.declared.tree.Comparison.{Comparison}
+use Rattle.grammar_syntax.specs.declared.tree.RecordEntry.{RecordEntry}
+use Rattle.grammar_syntax.specs.declared.tree.KeyTree.{KeyTree}
+use Rattle.grammar_syntax.specs.declared.tree.KeyTree.TheVariants.{Word, Quoted}
+use Rattle.grammar_syntax.specs.declared.tree.Term.{Term}
+use Rattle.grammar_syntax.specs.declared.tree.ExprTree.{ExprTree}
+use Rattle.grammar_syntax.specs.declared.tree.RequestKeyword.{RequestKeyword}
+use Rattle.grammar_syntax.specs.declared.tree.ExprTree.TheVariants as t
+use Rattle.grammar_syntax.specs.declared.tree.ExprTree.TheOpen.{ExprTree-F as tree}
+use Rattle.grammar_syntax.specs.declared.tree.ExprTree.TheFolds.{fold-roll-ExprTree}
 use Rattle.fault_places.specs.TokenCounts.{path_count, uid_count, total, each_count, row_count, access_count, entry_items}
 use Rattle.fault_places.specs.TokenCounts.{count_step, tree_count, access_tree_count, term_count, entry_count}
 

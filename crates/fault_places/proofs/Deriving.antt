@@ -2,11 +2,11 @@
 -- them stands there.
 use Rattle.std.proofs.Common.{◌≡◌, ℕ, ◌++◌, List, [], ◌∷◌, Some, refl, sym, ap, ◌∙◌, subst}
 use Rattle.std.specs.List.{slice_get}
-use Rattle.grammar_trees.specs.grammar_tokens.declared.token.Token.{Token}
-use Rattle.grammar_trees.specs.declared.tree.ExprTree.{ExprTree, out-ExprTree}
-use Rattle.grammar_trees.specs.declared.tree.ExprTree.TheOpen.{ExprTree-F as tree}
+use Rattle.grammar_syntax.specs.declared.token.Token.{Token}
+use Rattle.grammar_syntax.specs.declared.tree.ExprTree.{ExprTree, out-ExprTree}
+use Rattle.grammar_syntax.specs.declared.tree.ExprTree.TheOpen.{ExprTree-F as tree}
 use Rattle.grammar_core.specs.declared.expr.Expr.{Expr}
-use Rattle.grammar_policies.specs.grammar_expressions.Expressions.{any_expr}
+use Rattle.grammar_parsing.specs.Expressions.{any_expr}
 use Rattle.typing.specs.Places.{operands_of}
 use Rattle.policy_grammar.specs.grammar_desugaring.Core.{core_of}
 use Rattle.fault_places.specs.Forms.{Form, whole, operand, operand_step}

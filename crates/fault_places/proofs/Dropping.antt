@@ -1,7 +1,7 @@
 -- Tokens skipped in several steps are skipped at once.
 use Rattle.std.proofs.Common.{◌≡◌, ℕ, suc, ◌+◌, ◌<◌, List, [], ◌∷◌, length, drop, get_or, map, refl, sym, ◌∙◌, ap, add-one, drop-cons, arith}
 use Rattle.std.proofs.lemmas.List.{drop-drop}
-use Rattle.grammar_trees.specs.declared.tree.ExprTree.{ExprTree}
+use Rattle.grammar_syntax.specs.declared.tree.ExprTree.{ExprTree}
 use Rattle.fault_places.specs.TokenCounts.{tree_count}
 
 pub twice : {A : Type 0} (xs ys zs : List A) (m n : ℕ) → ys ≡ drop m xs → zs ≡ drop n ys → zs ≡ drop (m + n) xs

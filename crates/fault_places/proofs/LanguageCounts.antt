@@ -1,12 +1,12 @@
 -- How many tokens derive a value: one rule a form of language, and names by them.
 use Rattle.std.proofs.Common.{◌≡◌, ℕ, ◌+◌, inl, inr, List, [], ◌∷◌, length, Bool, true, false, Option, Some, None, refl, sym, ap, ◌∙◌, subst, arith, map, length-append}
-use Rattle.grammar_trees.specs.grammar_tokens.declared.token.Token.{Token}
-use Rattle.grammar_trees.specs.grammar_tokens.declared.token.TokenKind.TheVariants as k
-use Rattle.grammar_trees.specs.grammar_tokens.Kinds.{Kinds, only}
-use Rattle.grammar_trees.specs.grammar_tokens.Lang.{Lang}
-use Rattle.grammar_trees.specs.grammar_tokens.Lang as lang
-use Rattle.grammar_trees.specs.grammar_tokens.Grammar as g
-use Rattle.grammar_trees.specs.grammar_tokens.Grammar.{identifiers}
+use Rattle.grammar_syntax.specs.declared.token.Token.{Token}
+use Rattle.grammar_syntax.specs.declared.token.TokenKind.TheVariants as k
+use Rattle.grammar_syntax.specs.Kinds.{Kinds, only}
+use Rattle.grammar_syntax.specs.Lang.{Lang}
+use Rattle.grammar_syntax.specs.Lang as lang
+use Rattle.grammar_syntax.specs.Grammar as g
+use Rattle.grammar_syntax.specs.Grammar.{identifiers}
 use Rattle.fault_places.specs.TokenCounts.{path_count, uid_count, total, each_count}
 
 -- The tokens that derive a value are so many that P holds of both.

@@ -1,10 +1,10 @@
 -- A property of tokens and what they derive, shown from the pieces of a production.
 use Rattle.std.proofs.Common.{◌++◌, List, [], ◌∷◌, Bool, true, false, sym, ap, ◌∙◌, subst, inl, inr}
 use Rattle.std.proofs.lemmas.List.{append-nil}
-use Rattle.grammar_trees.specs.grammar_tokens.declared.token.Token.{Token}
-use Rattle.grammar_trees.specs.grammar_tokens.Kinds.{Kinds}
-use Rattle.grammar_trees.specs.grammar_tokens.Lang.{Lang}
-use Rattle.grammar_trees.specs.grammar_tokens.Lang as lang
+use Rattle.grammar_syntax.specs.declared.token.Token.{Token}
+use Rattle.grammar_syntax.specs.Kinds.{Kinds}
+use Rattle.grammar_syntax.specs.Lang.{Lang}
+use Rattle.grammar_syntax.specs.Lang as lang
 
 -- what L derives has the property P
 abbrev pub Shows : {A : Type 0} → Lang A → (List Token → A → Type 0) → Type 0

@@ -1,15 +1,15 @@
 -- What a production of expressions derives is an expression.
 use Rattle.std.proofs.Common.{ℕ, zero, suc, List, [], refl, sym, inl, inr}
 use Rattle.std.proofs.lemmas.List.{append-nil}
-use Rattle.grammar_trees.specs.grammar_tokens.declared.token.Token.{Token}
-use Rattle.grammar_trees.specs.grammar_tokens.declared.token.TokenKind.{TokenKind}
-use Rattle.grammar_trees.specs.grammar_tokens.declared.token.TokenKind.TheVariants as k
-use Rattle.grammar_trees.specs.grammar_tokens.Lang.{Lang}
-use Rattle.grammar_trees.specs.grammar_tokens.Lang as lang
-use Rattle.grammar_trees.specs.declared.tree.ExprTree.{ExprTree}
-use Rattle.grammar_trees.specs.declared.tree.ExprTree.TheVariants as tree
-use Rattle.grammar_policies.specs.grammar_expressions.Expressions as g
-use Rattle.grammar_policies.specs.grammar_expressions.Expressions.{expr, any_expr, is_positive}
+use Rattle.grammar_syntax.specs.declared.token.Token.{Token}
+use Rattle.grammar_syntax.specs.declared.token.TokenKind.{TokenKind}
+use Rattle.grammar_syntax.specs.declared.token.TokenKind.TheVariants as k
+use Rattle.grammar_syntax.specs.Lang.{Lang}
+use Rattle.grammar_syntax.specs.Lang as lang
+use Rattle.grammar_syntax.specs.declared.tree.ExprTree.{ExprTree}
+use Rattle.grammar_syntax.specs.declared.tree.ExprTree.TheVariants as tree
+use Rattle.grammar_parsing.specs.Expressions as g
+use Rattle.grammar_parsing.specs.Expressions.{expr, any_expr, is_positive}
 
 pub any_level : (levels : ℕ) (ts : List Token) (x : ExprTree) → g.level (is_positive levels) (expr levels) ts x
     → any_expr ts x

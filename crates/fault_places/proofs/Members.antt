@@ -3,22 +3,22 @@ use Rattle.std.proofs.Common.{◌≡◌, ℕ, ◌+◌, ◌-◌, ◌++◌, List, 
 use Rattle.std.specs.List.{slice_get, fold}
 use Rattle.std.specs.Option.{option_and_then}
 use Rattle.std.proofs.Math.Seq.{take-append_seam}
-use Rattle.grammar_trees.specs.grammar_tokens.declared.token.Token.{Token}
-use Rattle.grammar_trees.specs.grammar_tokens.declared.token.TokenKind.TheVariants as k
-use Rattle.grammar_trees.specs.grammar_tokens.Kinds.{only}
-use Rattle.grammar_trees.specs.grammar_tokens.Lang.{Lang, many}
-use Rattle.grammar_trees.specs.grammar_tokens.Lang as lang
-use Rattle.grammar_trees.specs.grammar_tokens.Lexing.{spelling_of}
-use Rattle.grammar_trees.specs.grammar_tokens.Grammar.{identifiers}
-use Rattle.grammar_trees.specs.declared.tree.Access.{Access}
-use Rattle.grammar_trees.specs.declared.tree.Access.TheVariants as access
-use Rattle.grammar_trees.specs.declared.tree.KeyTree.TheVariants.{Quoted}
-use Rattle.grammar_trees.specs.declared.tree.ExprTree.{ExprTree, out-ExprTree}
-use Rattle.grammar_trees.specs.declared.tree.ExprTree.TheVariants as t
+use Rattle.grammar_syntax.specs.declared.token.Token.{Token}
+use Rattle.grammar_syntax.specs.declared.token.TokenKind.TheVariants as k
+use Rattle.grammar_syntax.specs.Kinds.{only}
+use Rattle.grammar_syntax.specs.Lang.{Lang, many}
+use Rattle.grammar_syntax.specs.Lang as lang
+use Rattle.grammar_syntax.specs.Lexing.{spelling_of}
+use Rattle.grammar_syntax.specs.Grammar.{identifiers}
+use Rattle.grammar_syntax.specs.declared.tree.Access.{Access}
+use Rattle.grammar_syntax.specs.declared.tree.Access.TheVariants as access
+use Rattle.grammar_syntax.specs.declared.tree.KeyTree.TheVariants.{Quoted}
+use Rattle.grammar_syntax.specs.declared.tree.ExprTree.{ExprTree, out-ExprTree}
+use Rattle.grammar_syntax.specs.declared.tree.ExprTree.TheVariants as t
 use Rattle.grammar_core.specs.declared.expr.Expr.{Expr}
 use Rattle.grammar_core.specs.declared.expr.Expr.TheVariants as core
-use Rattle.grammar_policies.specs.grammar_expressions.Expressions as g
-use Rattle.grammar_policies.specs.grammar_expressions.Expressions.{expr, any_expr, is_positive, accessed}
+use Rattle.grammar_parsing.specs.Expressions as g
+use Rattle.grammar_parsing.specs.Expressions.{expr, any_expr, is_positive, accessed}
 use Rattle.fault_places.specs.TokenCounts.{tree_count, access_tree_count, total}
 use Rattle.typing.specs.Places.{operands_of, operands_in}
 use Rattle.grammar_core.specs.Operators.{method_of}

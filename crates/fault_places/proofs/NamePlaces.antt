@@ -5,16 +5,16 @@ use Rattle.std.specs.Option.{option_and_then}
 use Rattle.std.proofs.lemmas.List.{append-nil, take-append-drop, drop-drop}
 use Rattle.std.proofs.Math.Seq.{drop-append_seam}
 use Rattle.values.specs.declared.entity_uid.EntityUid.{EntityUid}
-use Rattle.grammar_trees.specs.grammar_tokens.declared.token.Token.{Token}
-use Rattle.grammar_trees.specs.grammar_tokens.declared.token.TokenKind.{TokenKind}
-use Rattle.grammar_trees.specs.grammar_tokens.declared.token.TokenKind.TheVariants as k
-use Rattle.grammar_trees.specs.grammar_tokens.declared.tree.PathTree.{PathTree}
-use Rattle.grammar_trees.specs.grammar_tokens.declared.tree.UidTree.{UidTree}
-use Rattle.grammar_trees.specs.grammar_tokens.Kinds.{only}
-use Rattle.grammar_trees.specs.grammar_tokens.Lang.{many}
-use Rattle.grammar_trees.specs.grammar_tokens.Lang as lang
-use Rattle.grammar_trees.specs.grammar_tokens.Lexing.{IsLexed}
-use Rattle.grammar_trees.specs.grammar_tokens.Grammar as names
+use Rattle.grammar_syntax.specs.declared.token.Token.{Token}
+use Rattle.grammar_syntax.specs.declared.token.TokenKind.{TokenKind}
+use Rattle.grammar_syntax.specs.declared.token.TokenKind.TheVariants as k
+use Rattle.grammar_syntax.specs.declared.name_trees.PathTree.{PathTree}
+use Rattle.grammar_syntax.specs.declared.name_trees.UidTree.{UidTree}
+use Rattle.grammar_syntax.specs.Kinds.{only}
+use Rattle.grammar_syntax.specs.Lang.{many}
+use Rattle.grammar_syntax.specs.Lang as lang
+use Rattle.grammar_syntax.specs.Lexing.{IsLexed}
+use Rattle.grammar_syntax.specs.Grammar as names
 use Rattle.grammar_core.specs.declared.expr.Expr.{Expr}
 use Rattle.grammar_core.specs.declared.expr.Expr.TheViews.{out-Expr}
 use Rattle.grammar_core.specs.declared.expr.Expr.TheVariants as core
@@ -23,16 +23,16 @@ use Rattle.grammar_core.specs.declared.leaf.Variable.TheVariants.{Principal, Act
 use Rattle.grammar_core.specs.declared.operator.Binary.{Binary}
 use Rattle.grammar_core.specs.declared.operator.Binary.TheVariants.{In}
 use Rattle.grammar_core.specs.declared.operator.Unary.TheVariants.{Not, Is}
-use Rattle.grammar_policies.specs.declared.tree.Condition.{Condition}
-use Rattle.grammar_policies.specs.declared.tree.ConditionWord.{ConditionWord}
-use Rattle.grammar_policies.specs.declared.tree.ConditionWord.TheVariants.{When, Unless}
-use Rattle.grammar_policies.specs.declared.tree.PartTree.{PartTree}
-use Rattle.grammar_policies.specs.declared.tree.PartTree.TheVariants as part
-use Rattle.grammar_policies.specs.declared.tree.ActionTree.{ActionTree}
-use Rattle.grammar_policies.specs.declared.tree.ActionTree.TheVariants as action
-use Rattle.grammar_policies.specs.declared.tree.PolicyTree.{PolicyTree}
-use Rattle.grammar_policies.specs.grammar_expressions.Expressions.{nesting_limit}
-use Rattle.grammar_policies.specs.Grammar as p
+use Rattle.grammar_parsing.specs.declared.tree.Condition.{Condition}
+use Rattle.grammar_parsing.specs.declared.tree.ConditionWord.{ConditionWord}
+use Rattle.grammar_parsing.specs.declared.tree.ConditionWord.TheVariants.{When, Unless}
+use Rattle.grammar_parsing.specs.declared.tree.PartTree.{PartTree}
+use Rattle.grammar_parsing.specs.declared.tree.PartTree.TheVariants as part
+use Rattle.grammar_parsing.specs.declared.tree.ActionTree.{ActionTree}
+use Rattle.grammar_parsing.specs.declared.tree.ActionTree.TheVariants as action
+use Rattle.grammar_parsing.specs.declared.tree.PolicyTree.{PolicyTree}
+use Rattle.grammar_parsing.specs.Expressions.{nesting_limit}
+use Rattle.grammar_parsing.specs.Grammar as p
 use Rattle.fault_places.specs.TokenCounts.{path_count, uid_count, each_count}
 use Rattle.typing.specs.Places.{operands_of, operands_in, follow, and_then}
 use Rattle.policy_grammar.specs.declared.policy.EntityScope.{EntityScope}

@@ -1,18 +1,18 @@
 -- A form seen by its tree.
 use Rattle.std.proofs.Common.{◌≡◌, ◌⊎◌, inl, inr, ℕ, ◌-◌, ◌==◌, false, cond, refl, ap, ◌∙◌, sym, List, Option, Some, None, drop, take, map, length, arith}
 use Rattle.std.proofs.lemmas.Bool.Decides.{nat_tests}
-use Rattle.grammar_trees.specs.grammar_tokens.declared.token.Token.{Token}
-use Rattle.grammar_trees.specs.grammar_tokens.declared.tree.PathTree.{PathTree}
-use Rattle.grammar_trees.specs.declared.tree.Access.{Access}
-use Rattle.grammar_trees.specs.grammar_tokens.declared.tree.UidTree.{UidTree}
-use Rattle.grammar_trees.specs.declared.tree.Comparison.{Comparison}
-use Rattle.grammar_trees.specs.declared.tree.KeyTree.{KeyTree}
-use Rattle.grammar_trees.specs.declared.tree.RecordEntry.{RecordEntry}
-use Rattle.grammar_trees.specs.declared.tree.Term.{Term}
-use Rattle.grammar_trees.specs.declared.tree.ExprTree.{ExprTree, out-ExprTree, roll-ExprTree, roll-out-ExprTree, map-ExprTree}
-use Rattle.grammar_trees.specs.declared.tree.ExprTree.{fold_out-ExprTree}
-use Rattle.grammar_trees.specs.declared.tree.ExprTree.TheVariants as t
-use Rattle.grammar_trees.specs.declared.tree.ExprTree.TheOpen.{ExprTree-F as tree}
+use Rattle.grammar_syntax.specs.declared.token.Token.{Token}
+use Rattle.grammar_syntax.specs.declared.name_trees.PathTree.{PathTree}
+use Rattle.grammar_syntax.specs.declared.tree.Access.{Access}
+use Rattle.grammar_syntax.specs.declared.name_trees.UidTree.{UidTree}
+use Rattle.grammar_syntax.specs.declared.tree.Comparison.{Comparison}
+use Rattle.grammar_syntax.specs.declared.tree.KeyTree.{KeyTree}
+use Rattle.grammar_syntax.specs.declared.tree.RecordEntry.{RecordEntry}
+use Rattle.grammar_syntax.specs.declared.tree.Term.{Term}
+use Rattle.grammar_syntax.specs.declared.tree.ExprTree.{ExprTree, out-ExprTree, roll-ExprTree, roll-out-ExprTree, map-ExprTree}
+use Rattle.grammar_syntax.specs.declared.tree.ExprTree.{fold_out-ExprTree}
+use Rattle.grammar_syntax.specs.declared.tree.ExprTree.TheVariants as t
+use Rattle.grammar_syntax.specs.declared.tree.ExprTree.TheOpen.{ExprTree-F as tree}
 use Rattle.fault_places.specs.TokenCounts.{tree_count, count_step, each_count}
 use Rattle.fault_places.specs.declared.forms.FormNode.{FormNode}
 use Rattle.fault_places.specs.declared.forms.FormNode.TheVariants as part

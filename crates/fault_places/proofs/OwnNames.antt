@@ -2,18 +2,18 @@
 use Rattle.std.proofs.Common.{◌≡◌, ℕ, ◌++◌, List, ◌∷◌, drop, Some, None, refl, sym, ap, ◌∙◌, subst, append_assoc}
 use Rattle.std.specs.List.{fold}
 use Rattle.std.specs.Option.{option_and_then}
-use Rattle.grammar_trees.specs.grammar_tokens.declared.token.Token.{Token}
-use Rattle.grammar_trees.specs.grammar_tokens.declared.tree.PathTree.{PathTree}
-use Rattle.grammar_trees.specs.grammar_tokens.declared.tree.UidTree.{UidTree}
-use Rattle.grammar_trees.specs.grammar_tokens.Grammar as names
-use Rattle.grammar_trees.specs.declared.tree.Comparison.{Comparison}
-use Rattle.grammar_trees.specs.declared.tree.Comparison.TheVariants as is
-use Rattle.grammar_trees.specs.declared.tree.ExprTree.{ExprTree, out-ExprTree}
-use Rattle.grammar_trees.specs.declared.tree.ExprTree.TheVariants as t
+use Rattle.grammar_syntax.specs.declared.token.Token.{Token}
+use Rattle.grammar_syntax.specs.declared.name_trees.PathTree.{PathTree}
+use Rattle.grammar_syntax.specs.declared.name_trees.UidTree.{UidTree}
+use Rattle.grammar_syntax.specs.Grammar as names
+use Rattle.grammar_syntax.specs.declared.tree.Comparison.{Comparison}
+use Rattle.grammar_syntax.specs.declared.tree.Comparison.TheVariants as is
+use Rattle.grammar_syntax.specs.declared.tree.ExprTree.{ExprTree, out-ExprTree}
+use Rattle.grammar_syntax.specs.declared.tree.ExprTree.TheVariants as t
 use Rattle.grammar_core.specs.declared.expr.Expr.{Expr}
 use Rattle.grammar_core.specs.declared.expr.Expr.TheViews.{out-Expr}
 use Rattle.grammar_core.specs.declared.expr.Expr.TheVariants as core
-use Rattle.grammar_policies.specs.grammar_expressions.Expressions.{any_expr}
+use Rattle.grammar_parsing.specs.Expressions.{any_expr}
 use Rattle.fault_places.specs.TokenCounts.{tree_count, path_count, uid_count}
 use Rattle.policy_grammar.specs.grammar_desugaring.Core.{core_of}
 use Rattle.typing.specs.Places.{follow}

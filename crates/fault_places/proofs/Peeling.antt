@@ -1,12 +1,12 @@
 -- Parentheses round a form.
 use Rattle.std.proofs.Common.{◌≡◌, ℕ, suc, ◌+◌, refl, ap, ◌∙◌, sym, List, drop, arith}
 use Rattle.std.proofs.lemmas.List.{drop-drop}
-use Rattle.grammar_trees.specs.grammar_tokens.declared.token.Token.{Token}
-use Rattle.grammar_trees.specs.declared.tree.ExprTree.{ExprTree, out-ExprTree, roll-ExprTree, roll-out-ExprTree, map-ExprTree}
-use Rattle.grammar_trees.specs.declared.tree.ExprTree.{fold_out-ExprTree}
-use Rattle.grammar_trees.specs.declared.tree.ExprTree.TheVariants as t
-use Rattle.grammar_trees.specs.declared.tree.ExprTree.TheOpen.{ExprTree-F as tree}
-use Rattle.grammar_trees.specs.declared.tree.ExprTree.TheFolds.{fold-roll-ExprTree}
+use Rattle.grammar_syntax.specs.declared.token.Token.{Token}
+use Rattle.grammar_syntax.specs.declared.tree.ExprTree.{ExprTree, out-ExprTree, roll-ExprTree, roll-out-ExprTree, map-ExprTree}
+use Rattle.grammar_syntax.specs.declared.tree.ExprTree.{fold_out-ExprTree}
+use Rattle.grammar_syntax.specs.declared.tree.ExprTree.TheVariants as t
+use Rattle.grammar_syntax.specs.declared.tree.ExprTree.TheOpen.{ExprTree-F as tree}
+use Rattle.grammar_syntax.specs.declared.tree.ExprTree.TheFolds.{fold-roll-ExprTree}
 use Rattle.fault_places.specs.declared.forms.FormNode.{FormNode}
 use Rattle.fault_places.specs.Forms.{Form, depth, depth_step, inside, peeled}
 

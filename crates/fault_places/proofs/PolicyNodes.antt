@@ -4,22 +4,22 @@ use Rattle.std.specs.List.{slice_get, AllByRecursion}
 use Rattle.std.specs.Option.{option_map}
 use Rattle.std.proofs.lemmas.List.{append-nil, take-append-drop, drop-drop}
 use Rattle.std.proofs.Math.Seq.{drop-append_seam}
-use Rattle.grammar_trees.specs.grammar_tokens.declared.token.Token.{Token}
-use Rattle.grammar_trees.specs.grammar_tokens.declared.token.TokenKind.{TokenKind}
-use Rattle.grammar_trees.specs.grammar_tokens.declared.token.TokenKind.TheVariants as k
-use Rattle.grammar_trees.specs.grammar_tokens.Lang.{many}
-use Rattle.grammar_trees.specs.grammar_tokens.Lexing.{IsLexed}
-use Rattle.grammar_trees.specs.declared.tree.ExprTree.{ExprTree}
+use Rattle.grammar_syntax.specs.declared.token.Token.{Token}
+use Rattle.grammar_syntax.specs.declared.token.TokenKind.{TokenKind}
+use Rattle.grammar_syntax.specs.declared.token.TokenKind.TheVariants as k
+use Rattle.grammar_syntax.specs.Lang.{many}
+use Rattle.grammar_syntax.specs.Lexing.{IsLexed}
+use Rattle.grammar_syntax.specs.declared.tree.ExprTree.{ExprTree}
 use Rattle.grammar_core.specs.declared.expr.Expr.{Expr}
 use Rattle.grammar_core.specs.declared.expr.Expr.TheVariants as core
 use Rattle.grammar_core.specs.declared.operator.Unary.TheVariants.{Not}
-use Rattle.grammar_policies.specs.declared.tree.Condition.{Condition}
-use Rattle.grammar_policies.specs.declared.tree.ConditionWord.{ConditionWord}
-use Rattle.grammar_policies.specs.declared.tree.ConditionWord.TheVariants.{When, Unless}
-use Rattle.grammar_policies.specs.declared.tree.PartTree.{PartTree}
-use Rattle.grammar_policies.specs.declared.tree.PolicyTree.{PolicyTree}
-use Rattle.grammar_policies.specs.grammar_expressions.Expressions.{any_expr, nesting_limit}
-use Rattle.grammar_policies.specs.Grammar as p
+use Rattle.grammar_parsing.specs.declared.tree.Condition.{Condition}
+use Rattle.grammar_parsing.specs.declared.tree.ConditionWord.{ConditionWord}
+use Rattle.grammar_parsing.specs.declared.tree.ConditionWord.TheVariants.{When, Unless}
+use Rattle.grammar_parsing.specs.declared.tree.PartTree.{PartTree}
+use Rattle.grammar_parsing.specs.declared.tree.PolicyTree.{PolicyTree}
+use Rattle.grammar_parsing.specs.Expressions.{any_expr, nesting_limit}
+use Rattle.grammar_parsing.specs.Grammar as p
 use Rattle.typing.specs.Places.{operands_of, operands_in, follow, and_then}
 use Rattle.policy_grammar.specs.declared.policy.Policy.{Policy}
 use Rattle.policy_grammar.specs.grammar_desugaring.Core.{core_of}

@@ -4,21 +4,21 @@ use Rattle.std.specs.List.{slice_get, fold}
 use Rattle.std.proofs.lemmas.List.{append-nil}
 use Rattle.std.proofs.lemmas.List.Folds.{fold-map}
 use Rattle.std.proofs.lemmas.List.Sums.{fold-append}
-use Rattle.grammar_trees.specs.grammar_tokens.declared.token.Token.{Token}
-use Rattle.grammar_trees.specs.grammar_tokens.declared.token.TokenKind.{TokenKind}
-use Rattle.grammar_trees.specs.grammar_tokens.declared.token.TokenKind.TheVariants as k
-use Rattle.grammar_trees.specs.grammar_tokens.declared.tree.PathTree.{PathTree}
-use Rattle.grammar_trees.specs.grammar_tokens.Kinds.{only}
-use Rattle.grammar_trees.specs.grammar_tokens.Lang.{Lang, many}
-use Rattle.grammar_trees.specs.grammar_tokens.Lang as lang
-use Rattle.grammar_trees.specs.grammar_tokens.Grammar as names
-use Rattle.grammar_trees.specs.declared.tree.ExprTree.{ExprTree}
-use Rattle.grammar_trees.specs.declared.tree.ExprTree.TheVariants as t
+use Rattle.grammar_syntax.specs.declared.token.Token.{Token}
+use Rattle.grammar_syntax.specs.declared.token.TokenKind.{TokenKind}
+use Rattle.grammar_syntax.specs.declared.token.TokenKind.TheVariants as k
+use Rattle.grammar_syntax.specs.declared.name_trees.PathTree.{PathTree}
+use Rattle.grammar_syntax.specs.Kinds.{only}
+use Rattle.grammar_syntax.specs.Lang.{Lang, many}
+use Rattle.grammar_syntax.specs.Lang as lang
+use Rattle.grammar_syntax.specs.Grammar as names
+use Rattle.grammar_syntax.specs.declared.tree.ExprTree.{ExprTree}
+use Rattle.grammar_syntax.specs.declared.tree.ExprTree.TheVariants as t
 use Rattle.grammar_core.specs.declared.expr.Expr.{Expr}
 use Rattle.grammar_core.specs.declared.expr.Expr.TheVariants as core
 use Rattle.grammar_core.specs.declared.operator.Binary.TheVariants.{Multiply}
-use Rattle.grammar_policies.specs.grammar_expressions.Expressions as g
-use Rattle.grammar_policies.specs.grammar_expressions.Expressions.{expr, any_expr, is_positive, joined, is_in}
+use Rattle.grammar_parsing.specs.Expressions as g
+use Rattle.grammar_parsing.specs.Expressions.{expr, any_expr, is_positive, joined, is_in}
 use Rattle.typing.specs.Places.{operands_of, operands_in}
 use Rattle.policy_grammar.specs.grammar_desugaring.Core.{core_of, accessed, added, in_access, in_term}
 use Rattle.policy_grammar.proofs.of_grammar_desugaring.Cores as cores

@@ -1,14 +1,14 @@
 -- An expression has a token.
 use Rattle.std.proofs.Common.{◌≡◌, ℕ, ◌++◌, List, [], ◌∷◌, refl, ap, Option}
-use Rattle.grammar_trees.specs.grammar_tokens.declared.token.Token.{Token}
-use Rattle.grammar_trees.specs.grammar_tokens.declared.token.TokenKind.{TokenKind}
-use Rattle.grammar_trees.specs.grammar_tokens.declared.token.TokenKind.TheVariants as k
-use Rattle.grammar_trees.specs.grammar_tokens.Kinds.{Kinds, only}
-use Rattle.grammar_trees.specs.grammar_tokens.Lang.{Lang}
-use Rattle.grammar_trees.specs.grammar_tokens.Lang as lang
-use Rattle.grammar_trees.specs.declared.tree.ExprTree.{ExprTree}
-use Rattle.grammar_policies.specs.grammar_expressions.Expressions as g
-use Rattle.grammar_policies.specs.grammar_expressions.Expressions.{expr, any_expr, is_positive}
+use Rattle.grammar_syntax.specs.declared.token.Token.{Token}
+use Rattle.grammar_syntax.specs.declared.token.TokenKind.{TokenKind}
+use Rattle.grammar_syntax.specs.declared.token.TokenKind.TheVariants as k
+use Rattle.grammar_syntax.specs.Kinds.{Kinds, only}
+use Rattle.grammar_syntax.specs.Lang.{Lang}
+use Rattle.grammar_syntax.specs.Lang as lang
+use Rattle.grammar_syntax.specs.declared.tree.ExprTree.{ExprTree}
+use Rattle.grammar_parsing.specs.Expressions as g
+use Rattle.grammar_parsing.specs.Expressions.{expr, any_expr, is_positive}
 use Rattle.fault_places.proofs.Languages.{Shows, both_shows, past_shows, or_shows, gate_shows}
 
 -- there is a first token

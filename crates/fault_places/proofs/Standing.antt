@@ -1,24 +1,24 @@
 -- A form whose tokens derive it, for a core node: on the way down to a core node each form stands so.
 use Rattle.std.proofs.Common.{◌≡◌, ℕ, ◌+◌, ◌++◌, List, [], ◌∷◌, length, true, Some}
 use Rattle.std.specs.List.{fold}
-use Rattle.grammar_trees.specs.grammar_tokens.declared.token.Token.{Token}
-use Rattle.grammar_trees.specs.grammar_tokens.declared.token.TokenKind.TheVariants as k
-use Rattle.grammar_trees.specs.grammar_tokens.declared.tree.PathTree.{PathTree}
-use Rattle.grammar_trees.specs.grammar_tokens.Lang.{Lang, many}
-use Rattle.grammar_trees.specs.grammar_tokens.Lang as lang
-use Rattle.grammar_trees.specs.grammar_tokens.Grammar as names
-use Rattle.grammar_trees.specs.declared.tree.Access.{Access}
-use Rattle.grammar_trees.specs.declared.tree.Comparison.{Comparison}
-use Rattle.grammar_trees.specs.declared.tree.Comparison.TheVariants as is
-use Rattle.grammar_trees.specs.declared.tree.Term.{Term}
-use Rattle.grammar_trees.specs.declared.tree.ExprTree.{ExprTree}
-use Rattle.grammar_trees.specs.declared.tree.ExprTree.TheVariants as tree
+use Rattle.grammar_syntax.specs.declared.token.Token.{Token}
+use Rattle.grammar_syntax.specs.declared.token.TokenKind.TheVariants as k
+use Rattle.grammar_syntax.specs.declared.name_trees.PathTree.{PathTree}
+use Rattle.grammar_syntax.specs.Lang.{Lang, many}
+use Rattle.grammar_syntax.specs.Lang as lang
+use Rattle.grammar_syntax.specs.Grammar as names
+use Rattle.grammar_syntax.specs.declared.tree.Access.{Access}
+use Rattle.grammar_syntax.specs.declared.tree.Comparison.{Comparison}
+use Rattle.grammar_syntax.specs.declared.tree.Comparison.TheVariants as is
+use Rattle.grammar_syntax.specs.declared.tree.Term.{Term}
+use Rattle.grammar_syntax.specs.declared.tree.ExprTree.{ExprTree}
+use Rattle.grammar_syntax.specs.declared.tree.ExprTree.TheVariants as tree
 use Rattle.grammar_core.specs.declared.expr.Expr.{Expr}
 use Rattle.grammar_core.specs.declared.expr.Expr.TheVariants as core
 use Rattle.grammar_core.specs.declared.operator.Unary.TheVariants.{Is}
 use Rattle.grammar_core.specs.declared.operator.Binary.TheVariants.{In, Multiply, Less, LessOrEqual, Equal}
-use Rattle.grammar_policies.specs.grammar_expressions.Expressions as g
-use Rattle.grammar_policies.specs.grammar_expressions.Expressions.{expr, any_expr, is_positive}
+use Rattle.grammar_parsing.specs.Expressions as g
+use Rattle.grammar_parsing.specs.Expressions.{expr, any_expr, is_positive}
 use Rattle.policy_grammar.specs.grammar_desugaring.Core.{core_of, accessed, added, in_access, in_term}
 use Rattle.policy_grammar.specs.grammar_desugaring.Meaning.{path_name}
 use Rattle.fault_places.specs.inner.Nodes as part

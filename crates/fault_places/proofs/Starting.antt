@@ -5,10 +5,10 @@ use Rattle.std.specs.Option.{unwrap_or}
 use Rattle.std.proofs.lemmas.Bool.{lt-ltb}
 use Rattle.std.proofs.lemmas.Bool.Decides.{Decides-eqb}
 use Rattle.std.proofs.Math.Seq.{drop-append_seam}
-use Rattle.grammar_trees.specs.grammar_tokens.declared.token.Token.{Token}
-use Rattle.grammar_trees.specs.grammar_tokens.declared.token.TokenKind.{TokenKind}
-use Rattle.grammar_trees.specs.grammar_tokens.Lexing.{IsToken, IsLexed, Lex, finish, gap, token}
-use Rattle.grammar_policies.proofs.of_grammar_tokens.FirstByte.{not_empty}
+use Rattle.grammar_syntax.specs.declared.token.Token.{Token}
+use Rattle.grammar_syntax.specs.declared.token.TokenKind.{TokenKind}
+use Rattle.grammar_syntax.specs.Lexing.{IsToken, IsLexed, Lex, finish, gap, token}
+use Rattle.grammar_syntax.proofs.FirstByte.{not_empty}
 use Rattle.fault_places.specs.Places.{from_byte}
 
 -- the tokens start at n or later, each behind the ones before it

@@ -1,11 +1,11 @@
 -- A `Turn` or a `NodePlace` that a function does not look for, and the conditions of a policy by their number.
 use Rattle.std.proofs.Common.{◌≡◌, ◌<◌, ◌≤◌, ◌-◌, refl, ap, ◌∙◌, ℕ, List, [], ◌∷◌, length, take, drop, get_or, Option, None, Bor, arith}
 use Rattle.std.proofs.lemmas.List.{take_all}
-use Rattle.grammar_trees.specs.grammar_tokens.declared.token.Token.{Token}
-use Rattle.grammar_trees.specs.declared.tree.ExprTree.{ExprTree}
-use Rattle.grammar_policies.specs.declared.tree.PartTree.{PartTree}
-use Rattle.grammar_policies.specs.declared.tree.ActionTree.{ActionTree}
-use Rattle.grammar_policies.specs.declared.tree.Condition.{Condition}
+use Rattle.grammar_syntax.specs.declared.token.Token.{Token}
+use Rattle.grammar_syntax.specs.declared.tree.ExprTree.{ExprTree}
+use Rattle.grammar_parsing.specs.declared.tree.PartTree.{PartTree}
+use Rattle.grammar_parsing.specs.declared.tree.ActionTree.{ActionTree}
+use Rattle.grammar_parsing.specs.declared.tree.Condition.{Condition}
 use Rattle.fault_places.specs.declared.turns.Turn.{Turn}
 use Rattle.fault_places.specs.declared.turns.Turn.TheVariants as t
 use Rattle.fault_places.specs.declared.places.NodePlace.{NodePlace}

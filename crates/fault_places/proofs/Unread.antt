@@ -1,7 +1,7 @@
 -- A text that is not made of tokens is no policy.
 use Rattle.std.proofs.Common.{ℕ, List, length, inl, inr}
 use Rattle.std.proofs.lemmas.Bool.{cases_lt}
-use Rattle.grammar_trees.specs.grammar_tokens.Lexing.{IsBadAt}
+use Rattle.grammar_syntax.specs.Lexing.{IsBadAt}
 use Rattle.policy_grammar.specs.declared.fault.ReadFault.TheVariants as fault
 use Rattle.policy_grammar.specs.Texts.{most_policy_bytes}
 use Rattle.fault_places.specs.Spans.{IsNoPolicy}

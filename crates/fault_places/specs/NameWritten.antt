@@ -2,11 +2,11 @@
 -- Source: Cedar reference guide 4.0, "Grammar specification for Cedar policy syntax" (Path, Uid).
 -- Rules of this product: a node's own name is the entity of a literal, or the type of an `is`.
 use Rattle.std.specs.Prelude.{◌≡◌, ℕ, List, ◌∷◌, ◌++◌, Option, Some, None}
-use Rattle.grammar_trees.specs.grammar_tokens.declared.token.Token.{Token}
-use Rattle.grammar_trees.specs.grammar_tokens.declared.tree.PathTree.{PathTree}
-use Rattle.grammar_trees.specs.grammar_tokens.declared.tree.UidTree.{UidTree}
-use Rattle.grammar_trees.specs.grammar_tokens.Lexing.{IsLexed}
-use Rattle.grammar_trees.specs.grammar_tokens.Grammar.{path, uid}
+use Rattle.grammar_syntax.specs.declared.token.Token.{Token}
+use Rattle.grammar_syntax.specs.declared.name_trees.PathTree.{PathTree}
+use Rattle.grammar_syntax.specs.declared.name_trees.UidTree.{UidTree}
+use Rattle.grammar_syntax.specs.Lexing.{IsLexed}
+use Rattle.grammar_syntax.specs.Grammar.{path, uid}
 use Rattle.values.specs.declared.entity_uid.EntityUid.{EntityUid}
 use Rattle.grammar_core.specs.declared.leaf.Literal.{Literal}
 use Rattle.grammar_core.specs.declared.leaf.Literal.TheVariants as literal
@@ -15,9 +15,9 @@ use Rattle.grammar_core.specs.declared.operator.Unary.TheVariants.{Is}
 use Rattle.grammar_core.specs.declared.expr.Expr.{Expr}
 use Rattle.grammar_core.specs.declared.expr.Expr.TheOpen.{Expr-F}
 use Rattle.grammar_core.specs.declared.expr.Expr.TheViews.{out-Expr}
-use Rattle.grammar_policies.specs.declared.tree.PolicyTree.{PolicyTree}
-use Rattle.grammar_policies.specs.grammar_expressions.Expressions.{nesting_limit}
-use Rattle.grammar_policies.specs.Grammar.{policy}
+use Rattle.grammar_parsing.specs.declared.tree.PolicyTree.{PolicyTree}
+use Rattle.grammar_parsing.specs.Expressions.{nesting_limit}
+use Rattle.grammar_parsing.specs.Grammar.{policy}
 use Rattle.policy_grammar.specs.declared.policy.Policy.{Policy}
 use Rattle.policy_grammar.specs.grammar_desugaring.Meaning.{path_name, uid_of}
 use Rattle.policy_grammar.specs.CoreOf.{IsCoreOf}

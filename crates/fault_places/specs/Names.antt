@@ -3,17 +3,17 @@
 -- Source: Cedar reference guide 4.0, "Grammar specification for Cedar policy syntax" (Path, Uid).
 -- Rules of this product: a path into a part of the scope follows the expression that the part abbreviates.
 use Rattle.std.specs.Prelude.{ℕ, List, [], ◌∷◌, map, take, drop, Option, Some, None, option_and_then, slice_get}
-use Rattle.grammar_trees.specs.grammar_tokens.declared.token.Token.{Token}
-use Rattle.grammar_trees.specs.grammar_tokens.declared.tree.PathTree.{PathTree}
-use Rattle.grammar_trees.specs.grammar_tokens.declared.tree.UidTree.{UidTree}
-use Rattle.grammar_trees.specs.declared.tree.ExprTree.{ExprTree}
-use Rattle.grammar_trees.specs.declared.tree.ExprTree.TheOpen.{ExprTree-F as tree}
-use Rattle.grammar_trees.specs.declared.tree.ExprTree.TheViews.{out-ExprTree}
-use Rattle.grammar_policies.specs.declared.tree.PartTree.{PartTree}
-use Rattle.grammar_policies.specs.declared.tree.PartTree.TheVariants as part
-use Rattle.grammar_policies.specs.declared.tree.ActionTree.{ActionTree}
-use Rattle.grammar_policies.specs.declared.tree.ActionTree.TheVariants as action
-use Rattle.grammar_policies.specs.declared.tree.PolicyTree.{PolicyTree}
+use Rattle.grammar_syntax.specs.declared.token.Token.{Token}
+use Rattle.grammar_syntax.specs.declared.name_trees.PathTree.{PathTree}
+use Rattle.grammar_syntax.specs.declared.name_trees.UidTree.{UidTree}
+use Rattle.grammar_syntax.specs.declared.tree.ExprTree.{ExprTree}
+use Rattle.grammar_syntax.specs.declared.tree.ExprTree.TheOpen.{ExprTree-F as tree}
+use Rattle.grammar_syntax.specs.declared.tree.ExprTree.TheViews.{out-ExprTree}
+use Rattle.grammar_parsing.specs.declared.tree.PartTree.{PartTree}
+use Rattle.grammar_parsing.specs.declared.tree.PartTree.TheVariants as part
+use Rattle.grammar_parsing.specs.declared.tree.ActionTree.{ActionTree}
+use Rattle.grammar_parsing.specs.declared.tree.ActionTree.TheVariants as action
+use Rattle.grammar_parsing.specs.declared.tree.PolicyTree.{PolicyTree}
 use Rattle.fault_places.specs.TokenCounts.{path_count, uid_count, tree_count, each_count}
 use Rattle.fault_places.specs.declared.forms.FormNode.{FormNode}
 use Rattle.fault_places.specs.declared.forms.FormNode.TheVariants as node

@@ -4,22 +4,22 @@
 -- of one expression, as `!(a <= b)` of `a > b`, the inner one has no expression of its own.
 use Rattle.std.specs.Prelude.{◌≡◌, ℕ, List, [], ◌∷◌, ◌++◌, Some}
 use Rattle.std.specs.List.{AllByRecursion}
-use Rattle.grammar_trees.specs.grammar_tokens.declared.token.Token.{Token}
-use Rattle.grammar_trees.specs.grammar_tokens.declared.token.TokenKind.TheVariants as k
-use Rattle.grammar_trees.specs.grammar_tokens.Lang.{many}
-use Rattle.grammar_trees.specs.grammar_tokens.Lexing.{IsLexed}
-use Rattle.grammar_trees.specs.grammar_tokens.declared.tree.PathTree.{PathTree}
-use Rattle.grammar_trees.specs.declared.tree.Comparison.{Comparison}
-use Rattle.grammar_trees.specs.declared.tree.ExprTree.{ExprTree}
-use Rattle.grammar_trees.specs.declared.tree.ExprTree.TheVariants as tree
+use Rattle.grammar_syntax.specs.declared.token.Token.{Token}
+use Rattle.grammar_syntax.specs.declared.token.TokenKind.TheVariants as k
+use Rattle.grammar_syntax.specs.Lang.{many}
+use Rattle.grammar_syntax.specs.Lexing.{IsLexed}
+use Rattle.grammar_syntax.specs.declared.name_trees.PathTree.{PathTree}
+use Rattle.grammar_syntax.specs.declared.tree.Comparison.{Comparison}
+use Rattle.grammar_syntax.specs.declared.tree.ExprTree.{ExprTree}
+use Rattle.grammar_syntax.specs.declared.tree.ExprTree.TheVariants as tree
 use Rattle.grammar_core.specs.declared.expr.Expr.{Expr}
 use Rattle.grammar_core.specs.declared.expr.Expr.TheVariants as core
 use Rattle.grammar_core.specs.declared.operator.Unary.TheVariants.{Not}
-use Rattle.grammar_policies.specs.declared.tree.Condition.{Condition}
-use Rattle.grammar_policies.specs.declared.tree.ConditionWord.TheVariants.{Unless}
-use Rattle.grammar_policies.specs.declared.tree.PolicyTree.{PolicyTree}
-use Rattle.grammar_policies.specs.grammar_expressions.Expressions.{any_expr, nesting_limit}
-use Rattle.grammar_policies.specs.Grammar.{annotation, entity_part, action_part, condition, policy}
+use Rattle.grammar_parsing.specs.declared.tree.Condition.{Condition}
+use Rattle.grammar_parsing.specs.declared.tree.ConditionWord.TheVariants.{Unless}
+use Rattle.grammar_parsing.specs.declared.tree.PolicyTree.{PolicyTree}
+use Rattle.grammar_parsing.specs.Expressions.{any_expr, nesting_limit}
+use Rattle.grammar_parsing.specs.Grammar.{annotation, entity_part, action_part, condition, policy}
 use Rattle.policy_grammar.specs.declared.policy.Policy.{Policy}
 use Rattle.policy_grammar.specs.grammar_desugaring.Core.{core_of}
 use Rattle.policy_grammar.specs.Conditions.{condition_of}

@@ -2,12 +2,12 @@
 -- Source: docs/codes.md.
 -- Rules of this product: a span is the offset of its first byte, and the offset after its last byte.
 use Rattle.std.specs.Prelude.{◌≡◌, ◌⊎◌, ℕ, ◌-◌, List, length, slice_get, Option, Some, None, option_and_then}
-use Rattle.grammar_trees.specs.grammar_tokens.declared.token.Token.{Token}
-use Rattle.grammar_trees.specs.grammar_tokens.Lexing.{IsLexed}
-use Rattle.grammar_trees.specs.grammar_tokens.Lang.{at_any}
-use Rattle.grammar_policies.specs.declared.tree.PolicyTree.{PolicyTree}
-use Rattle.grammar_policies.specs.Grammar as grammar
-use Rattle.grammar_policies.specs.grammar_expressions.Expressions.{nesting_limit}
+use Rattle.grammar_syntax.specs.declared.token.Token.{Token}
+use Rattle.grammar_syntax.specs.Lexing.{IsLexed}
+use Rattle.grammar_syntax.specs.Lang.{at_any}
+use Rattle.grammar_parsing.specs.declared.tree.PolicyTree.{PolicyTree}
+use Rattle.grammar_parsing.specs.Grammar as grammar
+use Rattle.grammar_parsing.specs.Expressions.{nesting_limit}
 use Rattle.policy_grammar.specs.declared.fault.ReadFault.{ReadFault}
 use Rattle.policy_grammar.specs.Texts.{Derives, IsUnread, most_policy_bytes}
 use Rattle.fault_places.specs.declared.spans.Span.{Span}

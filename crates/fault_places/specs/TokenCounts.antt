@@ -2,16 +2,16 @@
 -- Source: Cedar reference guide 4.0, "Grammar specification for Cedar policy syntax".
 -- Rules of this product: trees keep no brackets, operators and keywords, so these are counted by the form.
 use Rattle.std.specs.Prelude.{ℕ, zero, suc, ◌+◌, List, [], ◌∷◌, length, map}
-use Rattle.grammar_trees.specs.grammar_tokens.declared.tree.PathTree.{PathTree}
-use Rattle.grammar_trees.specs.grammar_tokens.declared.tree.UidTree.{UidTree}
-use Rattle.grammar_trees.specs.declared.tree.Access.{Access}
-use Rattle.grammar_trees.specs.declared.tree.Access.TheVariants as access
-use Rattle.grammar_trees.specs.declared.tree.RecordEntry.{RecordEntry}
-use Rattle.grammar_trees.specs.declared.tree.KeyTree.TheVariants.{Word, Quoted}
-use Rattle.grammar_trees.specs.declared.tree.Term.{Term}
-use Rattle.grammar_trees.specs.declared.tree.ExprTree.{ExprTree}
-use Rattle.grammar_trees.specs.declared.tree.ExprTree.TheOpen.{ExprTree-F as tree}
-use Rattle.grammar_trees.specs.declared.tree.ExprTree.TheFolds.{fold-ExprTree}
+use Rattle.grammar_syntax.specs.declared.name_trees.PathTree.{PathTree}
+use Rattle.grammar_syntax.specs.declared.name_trees.UidTree.{UidTree}
+use Rattle.grammar_syntax.specs.declared.tree.Access.{Access}
+use Rattle.grammar_syntax.specs.declared.tree.Access.TheVariants as access
+use Rattle.grammar_syntax.specs.declared.tree.RecordEntry.{RecordEntry}
+use Rattle.grammar_syntax.specs.declared.tree.KeyTree.TheVariants.{Word, Quoted}
+use Rattle.grammar_syntax.specs.declared.tree.Term.{Term}
+use Rattle.grammar_syntax.specs.declared.tree.ExprTree.{ExprTree}
+use Rattle.grammar_syntax.specs.declared.tree.ExprTree.TheOpen.{ExprTree-F as tree}
+use Rattle.grammar_syntax.specs.declared.tree.ExprTree.TheFolds.{fold-ExprTree}
 
 -- `path_count path` is the number of tokens of a Path: its words, and `::` between each two.
 abbrev pub path_count : PathTree → ℕ

@@ -4,7 +4,7 @@ ghost use Rattle.fault_places.specs.TokenCounts.{tree_count, access_tree_count, 
 ghost use Rattle.fault_places.specs.TokenCounts.{each_count, total, lone_count};
 
 use crate::leaves::{skip, tokens_after_opened, tokens_after_path, tokens_after_uid};
-use grammar_trees::{Access, ExprTree, KeyTree, RecordEntry, Term, Token};
+use grammar_syntax::{Access, ExprTree, KeyTree, RecordEntry, Term, Token};
 use plain::{Boxed, Items};
 
 /// Returns the tokens after the expression with the tree `tree`, which `tokens` begin with.

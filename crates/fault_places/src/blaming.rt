@@ -11,8 +11,9 @@ use crate::descending::{BlamedForm, descend};
 use crate::judging::{Judgement, judge};
 use grammar_core::Expr;
 use plain::NoMemory;
+use policy_grammar::Policy;
 use std::alloc::Global;
-use type_checker::{Policy, Schema, TypingEnvironment, drop_types};
+use type_checker::{Schema, TypingEnvironment, drop_types};
 use validator::TypeFault;
 
 /// The first typing error of a policy, and what it blames.

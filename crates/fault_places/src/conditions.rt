@@ -6,7 +6,8 @@ use crate::behind::tokens_after_tree;
 use crate::leaves::skip;
 use crate::places::NodePlace;
 use crate::turns::{Turn, first_turn};
-use grammar_policies::{Condition, ConditionWord, Token};
+use grammar_parsing::{Condition, ConditionWord};
+use grammar_syntax::Token;
 
 /// Returns the tokens after `condition`, which `tokens` begin with.
 pub(crate) fn tokens_after_condition<'t>(condition: &Condition, tokens: &'t [Token]) -> &'t [Token]

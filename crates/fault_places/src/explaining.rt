@@ -13,8 +13,9 @@ use crate::refusing::{PolicyBlame, blame};
 use crate::wording::push_name;
 use grammar_core::Expr;
 use plain::NoMemory;
+use policy_grammar::Policy;
 use std::alloc::Global;
-use type_checker::{Policy, Schema, drop_types};
+use type_checker::{Schema, drop_types};
 use validator::{TypeFault, drop_expression, expression_of};
 
 /// Why a policy does not pass validation, in words.

@@ -1,7 +1,7 @@
 //! A theorem about the numbers of tokens. The function is a no-op.
 ghost use Rattle.std.specs.Prelude.{ℕ};
-ghost use Rattle.grammar_trees.specs.grammar_tokens.Grammar.{path, uid};
-ghost use Rattle.grammar_policies.specs.grammar_expressions.Expressions.{expr};
+ghost use Rattle.grammar_syntax.specs.Grammar.{path, uid};
+ghost use Rattle.grammar_parsing.specs.Expressions.{expr};
 ghost use Rattle.fault_places.specs.TokenCounts.{path_count, uid_count, tree_count};
 ghost use Rattle.fault_places.specs.Counted.{IsCounted};
 

@@ -3,8 +3,8 @@
 //! A written form is an expression of the syntax tree, or the front of a chain, such as `a + b` of `a + b + c`.
 ghost use Rattle.std.specs.Prelude.{◌≡◌, List, drop, take, map, length, option_map, slice_get};
 ghost use Rattle.fault_places.specs.TokenCounts.{path_count, tree_count};
-ghost use Rattle.grammar_trees.specs.declared.tree.ExprTree.{ExprTree};
-ghost use Rattle.grammar_trees.specs.declared.tree.ExprTree.TheViews.{out-ExprTree};
+ghost use Rattle.grammar_syntax.specs.declared.tree.ExprTree.{ExprTree};
+ghost use Rattle.grammar_syntax.specs.declared.tree.ExprTree.TheViews.{out-ExprTree};
 ghost use Rattle.fault_places.specs.Forms as spec;
 
 use crate::behind::{
@@ -12,7 +12,7 @@ use crate::behind::{
     tokens_after_piece, tokens_after_terms, tokens_after_tree,
 };
 use crate::leaves::{skip, tokens_after_path};
-use grammar_trees::{Access, Comparison, ExprTree, PathTree, RecordEntry, Term, Token};
+use grammar_syntax::{Access, Comparison, ExprTree, PathTree, RecordEntry, Term, Token};
 use plain::{Boxed, Items};
 
 /// Which core node of a written form is meant.

@@ -2,7 +2,7 @@
 ghost use Rattle.std.specs.Prelude.{◌≡◌, drop};
 ghost use Rattle.fault_places.specs.TokenCounts.{path_count, uid_count, lone_count};
 
-use grammar_trees::{PathTree, Token, UidTree};
+use grammar_syntax::{PathTree, Token, UidTree};
 
 /// Returns the tokens after the first `count`; the empty slice if there are no more.
 pub(crate) fn skip(tokens: &[Token], count: usize) -> &[Token]

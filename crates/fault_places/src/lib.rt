@@ -52,4 +52,6 @@ pub use policies::{named_at, written_at};
 pub use refusing::{PolicyBlame, blame};
 pub use spans::{Span, name_span, span_of};
 pub use unknown_names::{NameBlame, UnknownName, blame_name};
+
+// of lower layers
 pub use validator::{TypeFault, check};

@@ -6,7 +6,7 @@ ghost use Rattle.fault_places.specs.Names as spec;
 use crate::behind::tokens_after_piece;
 use crate::forms::{Form, FormNode, node_at, up_to};
 use crate::leaves::{tokens_after_path, tokens_after_uid};
-use grammar_trees::{ExprTree, PathTree, Token, UidTree};
+use grammar_syntax::{ExprTree, PathTree, Token, UidTree};
 use plain::Boxed;
 
 /// Returns the tokens of `path`, which `tokens` begin with.

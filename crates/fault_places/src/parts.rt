@@ -4,7 +4,8 @@ ghost use Rattle.fault_places.specs.Places as spec;
 ghost use Rattle.fault_places.specs.TokenCounts.{uid_count, each_count};
 
 use crate::leaves::{skip, tokens_after_opened, tokens_after_path, tokens_after_uid};
-use grammar_policies::{ActionTree, PartTree, Token, UidTree};
+use grammar_parsing::{ActionTree, PartTree};
+use grammar_syntax::{Token, UidTree};
 
 /// Returns the tokens after uids, each with a comma or bracket after it.
 pub(crate) fn tokens_after_uids<'t>(uids: &[UidTree], tokens: &'t [Token]) -> &'t [Token]

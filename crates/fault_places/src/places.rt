@@ -6,8 +6,8 @@ use crate::conditions::at_conditions;
 use crate::leaves::skip;
 use crate::parts::{tokens_after_action, tokens_after_part};
 use crate::turns::{Turn, first_turn};
-use grammar_policies::{ActionTree, Condition, PartTree, PolicyTree, Token};
-use grammar_trees::ExprTree;
+use grammar_parsing::{ActionTree, Condition, PartTree, PolicyTree};
+use grammar_syntax::{ExprTree, Token};
 
 /// The place of a core node: the piece of the policy, the tokens that begin with the piece, and the path in the piece.
 #[derive(Clone, Copy)]

@@ -9,7 +9,8 @@ use crate::names::name_in;
 use crate::parts::{tokens_after_action, tokens_after_part};
 use crate::places::{NodePlace, place_at};
 use crate::scopes::{action_name, entity_name};
-use grammar_policies::{PolicyTree, Token};
+use grammar_parsing::PolicyTree;
+use grammar_syntax::Token;
 
 /// Returns the tokens of the smallest written form that contains the core node at `path` of the expression of the
 /// policy `tree`; `None` if there is no such node. `tokens` are all tokens of the policy's text.

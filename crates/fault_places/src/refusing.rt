@@ -9,8 +9,9 @@ use crate::blaming::{TypeBlame, blame_type};
 use crate::unknown_names::{NameBlame, blame_name};
 use grammar_core::Expr;
 use plain::NoMemory;
+use policy_grammar::Policy;
 use std::alloc::Global;
-use type_checker::{Policy, Schema};
+use type_checker::Schema;
 
 /// The error for which a policy is rejected, with the name or expression that it blames.
 #[derive(Drop)]

@@ -8,7 +8,8 @@ use crate::leaves::{skip, tokens_after_path};
 use crate::names::{path_tokens, uid_tokens};
 use crate::parts::tokens_after_uids;
 use crate::turns::{Turn, first_turn};
-use grammar_policies::{ActionTree, PartTree, Token, UidTree};
+use grammar_parsing::{ActionTree, PartTree};
+use grammar_syntax::{Token, UidTree};
 
 /// Returns `name` if `path` is empty, else `None`.
 fn at_end<'t>(path: &[usize], name: Option<&'t [Token]>) -> Option<&'t [Token]>

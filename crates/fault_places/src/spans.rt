@@ -1,12 +1,13 @@
 //! Spans of a text, in bytes.
 ghost use Rattle.std.specs.Prelude.{◌≡◌, if◌then◌else◌, IfOk, option_map, option_and_then};
-ghost use Rattle.grammar_trees.specs.grammar_tokens.Lexing.{IsLexed};
+ghost use Rattle.grammar_syntax.specs.Lexing.{IsLexed};
 ghost use Rattle.fault_places.specs.Spans as spec;
 ghost use Rattle.fault_places.specs.Names as names;
 ghost use Rattle.fault_places.specs.Places as places;
 
 use crate::policies::{named_at, written_at};
-use grammar_policies::{LexFault, PolicyTree, Token, tokens};
+use grammar_parsing::PolicyTree;
+use grammar_syntax::{LexFault, Token, tokens};
 use plain::NoMemory;
 use policy_grammar::{ReadFault, drop_tree, policy_tree};
 use std::alloc::Global;

@@ -7,13 +7,13 @@ use Rattle.grammar_desugaring.specs.declared.fault.DesugarFault.{DesugarFault}
 use Rattle.grammar_desugaring.specs.declared.fault.DesugarFault.TheVariants.{RepeatedKey}
 use Rattle.grammar_desugaring.specs.ReportedErrors.{earlier_of, least}
 use Rattle.grammar_desugaring.specs.Repeats.{NameAt, IsRepeatedAt, places_of, repeats, repeat_faults, RepeatsAreExact, RepeatsAreReported}
-use Rattle.grammar_trees.specs.Repeats.{IsLeast, ReportsLeast}
-use Rattle.grammar_trees.specs.inner.Lesser.{lesser_of}
+use Rattle.grammar_syntax.specs.Repeats.{IsLeast, ReportsLeast}
+use Rattle.grammar_syntax.specs.inner.Lesser.{lesser_of}
 use Rattle.grammar_desugaring.specs.inner.Searching.{repeat_fault}
 use Rattle.std.proofs.lemmas.List.Elements.{Contains-append_left, Contains-append_right, Contains-append_cases}
 use Rattle.plain.proofs.Members.{Contains-here, Contains-there, Contains-cases, Contains-none}
 use Rattle.grammar_desugaring.proofs.AgainFront.{Later, again-there, again-here, again-front, again-none}
-use Rattle.grammar_trees.proofs.Repeating.{tells-same, tells-both}
+use Rattle.grammar_syntax.proofs.Repeating.{tells-same, tells-both}
 
 -- ---- as a list
 

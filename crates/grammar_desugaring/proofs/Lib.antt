@@ -13,5 +13,3 @@ pub mod Telling
 pub mod WellFormedLemmas
 pub mod AgainFront
 pub mod Again
--- crates below, passed on to those above
-pub use Rattle.grammar_trees.proofs.of_grammar_tokens

@@ -4,11 +4,11 @@ use Rattle.std.proofs.Common.{sym, ◌∙◌, ap, arith, add-one, Result, Ok, Er
 use Rattle.std.proofs.Math.Seq.{drop-cons}
 use Rattle.std.proofs.lemmas.List.{map-append, take_more}
 use Rattle.std.specs.List.{AllByRecursion}
-use Rattle.grammar_trees.specs.grammar_tokens.declared.token.Token.{Token}
-use Rattle.grammar_trees.specs.declared.tree.Access.{Access}
-use Rattle.grammar_trees.specs.declared.tree.Access.TheVariants as access
-use Rattle.grammar_trees.specs.declared.tree.ExprTree.{ExprTree}
-use Rattle.grammar_trees.specs.declared.tree.KeyTree.{KeyTree}
+use Rattle.grammar_syntax.specs.declared.token.Token.{Token}
+use Rattle.grammar_syntax.specs.declared.tree.Access.{Access}
+use Rattle.grammar_syntax.specs.declared.tree.Access.TheVariants as access
+use Rattle.grammar_syntax.specs.declared.tree.ExprTree.{ExprTree}
+use Rattle.grammar_syntax.specs.declared.tree.KeyTree.{KeyTree}
 use Rattle.plain.specs.Words.{AreIdents, IsIdent}
 
 -- an item of a list of which each is so

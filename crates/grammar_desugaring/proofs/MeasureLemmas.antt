@@ -2,19 +2,19 @@
 use Rattle.std.proofs.Common.{◌≡◌, ℕ, ◌+◌, Bool, refl, ap, ◌∙◌, sym, List, [], ◌∷◌, ◌++◌, map, length, None}
 use Rattle.std.proofs.lemmas.List.{append-nil}
 use Rattle.std.specs.List.{fold, flat_map}
-use Rattle.grammar_trees.specs.grammar_tokens.declared.token.Token.{Token}
-use Rattle.grammar_trees.specs.grammar_tokens.Lexing.{spelling_of}
-use Rattle.grammar_trees.specs.grammar_tokens.declared.tree.PathTree.{PathTree}
-use Rattle.grammar_trees.specs.grammar_tokens.declared.tree.UidTree.{UidTree}
-use Rattle.grammar_trees.specs.declared.tree.Access.{Access}
-use Rattle.grammar_trees.specs.declared.tree.Access.TheVariants as access
-use Rattle.grammar_trees.specs.declared.tree.Comparison.{Comparison}
-use Rattle.grammar_trees.specs.declared.tree.RecordEntry.{RecordEntry}
-use Rattle.grammar_trees.specs.declared.tree.KeyTree.{KeyTree}
-use Rattle.grammar_trees.specs.declared.tree.RequestKeyword.{RequestKeyword}
-use Rattle.grammar_trees.specs.declared.tree.Term.{Term}
-use Rattle.grammar_trees.specs.declared.tree.ExprTree.{ExprTree}
-use Rattle.grammar_trees.specs.declared.tree.ExprTree.TheVariants as t
+use Rattle.grammar_syntax.specs.declared.token.Token.{Token}
+use Rattle.grammar_syntax.specs.Lexing.{spelling_of}
+use Rattle.grammar_syntax.specs.declared.name_trees.PathTree.{PathTree}
+use Rattle.grammar_syntax.specs.declared.name_trees.UidTree.{UidTree}
+use Rattle.grammar_syntax.specs.declared.tree.Access.{Access}
+use Rattle.grammar_syntax.specs.declared.tree.Access.TheVariants as access
+use Rattle.grammar_syntax.specs.declared.tree.Comparison.{Comparison}
+use Rattle.grammar_syntax.specs.declared.tree.RecordEntry.{RecordEntry}
+use Rattle.grammar_syntax.specs.declared.tree.KeyTree.{KeyTree}
+use Rattle.grammar_syntax.specs.declared.tree.RequestKeyword.{RequestKeyword}
+use Rattle.grammar_syntax.specs.declared.tree.Term.{Term}
+use Rattle.grammar_syntax.specs.declared.tree.ExprTree.{ExprTree}
+use Rattle.grammar_syntax.specs.declared.tree.ExprTree.TheVariants as t
 use Rattle.grammar_core.specs.declared.operator.Unary.TheVariants.{Not, Negate, Like, Is}
 use Rattle.grammar_core.specs.declared.operator.Binary.TheVariants.{In, Multiply}
 use Rattle.grammar_core.specs.declared.expr.Expr.{Expr}
@@ -36,7 +36,7 @@ use Rattle.grammar_desugaring.specs.TreeMeasures.{measure, of, of_row, measured,
 use Rattle.grammar_desugaring.specs.Sums.{nothing, leaf, node_measure, side_by_side, paired, called, with_fault, measured_all}
 use Rattle.grammar_desugaring.specs.Sums.{measured_chain, measured_term, measured_entry, measured_compared, measured_call}
 use Rattle.grammar_desugaring.specs.Sums.{measured_access}
-use Rattle.grammar_trees.proofs.Flat.{flat_map_map}
+use Rattle.grammar_syntax.proofs.Flat.{flat_map_map}
 use Rattle.grammar_desugaring.proofs.Lists.{length-mapped}
 use Rattle.grammar_desugaring.proofs.Least.{least-append, earlier_same}
 use Rattle.grammar_desugaring.proofs.Sizing.{same, capped_above, of-Literal, of-Variable, of-Unary, of-Field, of-Has, of-Set}

@@ -1,29 +1,29 @@
 -- The parts of a tree that stands in a text stand there too.
 use Rattle.std.proofs.Common.{◌≡◌, ℕ, ap, ◌∙◌, subst, List, [], ◌∷◌, ◌++◌}
 use Rattle.std.specs.List.{AllByRecursion, flat_map}
-use Rattle.grammar_trees.specs.grammar_tokens.declared.token.TokenKind.TheVariants as k
-use Rattle.grammar_trees.specs.grammar_tokens.declared.token.Token.{Token}
-use Rattle.grammar_trees.specs.grammar_tokens.declared.tree.PathTree.{PathTree}
-use Rattle.grammar_trees.specs.grammar_tokens.declared.tree.UidTree.{UidTree}
-use Rattle.grammar_trees.specs.declared.tree.Access.{Access}
-use Rattle.grammar_trees.specs.declared.tree.Access.TheVariants as access
-use Rattle.grammar_trees.specs.declared.tree.Comparison.{Comparison}
-use Rattle.grammar_trees.specs.declared.tree.RecordEntry.{RecordEntry}
-use Rattle.grammar_trees.specs.declared.tree.KeyTree.{KeyTree}
-use Rattle.grammar_trees.specs.declared.tree.KeyTree.TheVariants.{Word, Quoted}
-use Rattle.grammar_trees.specs.declared.tree.Term.{Term}
-use Rattle.grammar_trees.specs.declared.tree.ExprTree.{ExprTree}
-use Rattle.grammar_trees.specs.declared.tree.ExprTree.TheVariants as t
-use Rattle.grammar_trees.specs.grammar_tokens.Kinds.{only}
-use Rattle.grammar_trees.specs.grammar_tokens.Grammar.{identifiers}
-use Rattle.grammar_trees.specs.Patterns.{patterns}
-use Rattle.grammar_trees.specs.Parts.{Part, part, key_part, path_parts, uid_parts, parts_of, parts_of_access}
-use Rattle.grammar_trees.specs.Parts.{parts_of_entry, parts_of_term}
-use Rattle.grammar_trees.proofs.Flat.{all_left, all_right, all_flat, all_mapped}
-use Rattle.grammar_trees.proofs.PartsOf.{parts-Number, parts-Text, parts-Uid, parts-Call, parts-Parentheses}
-use Rattle.grammar_trees.proofs.PartsOf.{parts-Set, parts-Record, parts-Member, parts-Not, parts-Minus}
-use Rattle.grammar_trees.proofs.PartsOf.{parts-Product, parts-Sum, parts-Compare, parts-Has, parts-Like, parts-Is}
-use Rattle.grammar_trees.proofs.PartsOf.{parts-IsIn, parts-And, parts-Or, parts-If}
+use Rattle.grammar_syntax.specs.declared.token.TokenKind.TheVariants as k
+use Rattle.grammar_syntax.specs.declared.token.Token.{Token}
+use Rattle.grammar_syntax.specs.declared.name_trees.PathTree.{PathTree}
+use Rattle.grammar_syntax.specs.declared.name_trees.UidTree.{UidTree}
+use Rattle.grammar_syntax.specs.declared.tree.Access.{Access}
+use Rattle.grammar_syntax.specs.declared.tree.Access.TheVariants as access
+use Rattle.grammar_syntax.specs.declared.tree.Comparison.{Comparison}
+use Rattle.grammar_syntax.specs.declared.tree.RecordEntry.{RecordEntry}
+use Rattle.grammar_syntax.specs.declared.tree.KeyTree.{KeyTree}
+use Rattle.grammar_syntax.specs.declared.tree.KeyTree.TheVariants.{Word, Quoted}
+use Rattle.grammar_syntax.specs.declared.tree.Term.{Term}
+use Rattle.grammar_syntax.specs.declared.tree.ExprTree.{ExprTree}
+use Rattle.grammar_syntax.specs.declared.tree.ExprTree.TheVariants as t
+use Rattle.grammar_syntax.specs.Kinds.{only}
+use Rattle.grammar_syntax.specs.Grammar.{identifiers}
+use Rattle.grammar_syntax.specs.Patterns.{patterns}
+use Rattle.grammar_syntax.specs.Parts.{Part, part, key_part, path_parts, uid_parts, parts_of, parts_of_access}
+use Rattle.grammar_syntax.specs.Parts.{parts_of_entry, parts_of_term}
+use Rattle.grammar_syntax.proofs.Flat.{all_left, all_right, all_flat, all_mapped}
+use Rattle.grammar_syntax.proofs.PartsOf.{parts-Number, parts-Text, parts-Uid, parts-Call, parts-Parentheses}
+use Rattle.grammar_syntax.proofs.PartsOf.{parts-Set, parts-Record, parts-Member, parts-Not, parts-Minus}
+use Rattle.grammar_syntax.proofs.PartsOf.{parts-Product, parts-Sum, parts-Compare, parts-Has, parts-Like, parts-Is}
+use Rattle.grammar_syntax.proofs.PartsOf.{parts-IsIn, parts-And, parts-Or, parts-If}
 use Rattle.grammar_desugaring.specs.inner.WellFormed.{TokenIn, WellFormed, KeyIn, PathIn, UidIn, AllWellFormed, WellFormedEntry}
 use Rattle.grammar_desugaring.specs.inner.WellFormed.{WellFormedTerm, WellFormedAccess}
 

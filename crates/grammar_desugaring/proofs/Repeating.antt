@@ -1,7 +1,7 @@
 -- Marks that loops make, one after another.
 use Rattle.std.proofs.Common.{◌≡◌, ℕ, List, [], ◌∷◌, ◌++◌, map, sym, ◌∙◌, ap, ◌+◌, ◌<◌, length, get_or, take}
 use Rattle.std.proofs.lemmas.List.{map-append, take_more}
-use Rattle.grammar_trees.specs.declared.repeats.NameAt as code
+use Rattle.grammar_syntax.specs.declared.repeats.NameAt as code
 use Rattle.grammar_desugaring.specs.Repeats.{NameAt, abstract_names}
 
 abbrev mark : List ℕ → ℕ → NameAt

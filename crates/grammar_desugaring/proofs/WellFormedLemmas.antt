@@ -2,15 +2,15 @@
 use Rattle.std.proofs.Common.{ℕ, zero, suc, List, [], ◌∷◌, subst, arith}
 use Rattle.std.specs.Prelude.{Contains}
 use Rattle.std.specs.List.{AllByRecursion}
-use Rattle.grammar_trees.specs.grammar_tokens.declared.token.Token.{Token}
-use Rattle.grammar_trees.specs.grammar_tokens.Lexing.{IsSpelledIn}
-use Rattle.grammar_trees.specs.grammar_tokens.declared.tree.PathTree.{PathTree}
-use Rattle.grammar_trees.specs.declared.tree.ExprTree.{ExprTree}
-use Rattle.grammar_trees.specs.grammar_tokens.Grammar.{identifiers}
-use Rattle.grammar_trees.specs.grammar_tokens.Kinds.{Kinds}
-use Rattle.grammar_trees.specs.Parts.{Part, parts_of}
-use Rattle.grammar_trees.specs.WellFormed.{WellFormedToken, WellFormedPath, WellFormedExpr}
-use Rattle.grammar_trees.proofs.Flat.{all_as}
+use Rattle.grammar_syntax.specs.declared.token.Token.{Token}
+use Rattle.grammar_syntax.specs.Lexing.{IsSpelledIn}
+use Rattle.grammar_syntax.specs.declared.name_trees.PathTree.{PathTree}
+use Rattle.grammar_syntax.specs.declared.tree.ExprTree.{ExprTree}
+use Rattle.grammar_syntax.specs.Grammar.{identifiers}
+use Rattle.grammar_syntax.specs.Kinds.{Kinds}
+use Rattle.grammar_syntax.specs.Parts.{Part, parts_of}
+use Rattle.grammar_syntax.specs.WellFormed.{WellFormedToken, WellFormedPath, WellFormedExpr}
+use Rattle.grammar_syntax.proofs.Flat.{all_as}
 use Rattle.grammar_desugaring.specs.inner.WellFormed.{TokenIn, PathIn, WellFormed}
 
 -- an item of a list of which each is so

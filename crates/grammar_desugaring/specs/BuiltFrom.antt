@@ -1,8 +1,8 @@
 -- Defines when a tree is made of tokens that a text spells.
 use Rattle.std.specs.Prelude.{ℕ, List}
 use Rattle.std.specs.List.{AllByRecursion}
-use Rattle.grammar_trees.specs.grammar_tokens.declared.token.Token.{Token}
-use Rattle.grammar_trees.specs.grammar_tokens.Lexing.{IsSpelledIn}
+use Rattle.grammar_syntax.specs.declared.token.Token.{Token}
+use Rattle.grammar_syntax.specs.Lexing.{IsSpelledIn}
 
 -- `IsBuiltFrom text WellFormed` holds if `WellFormed ts` holds for some tokens `ts`, each spelled in `text`.
 -- `WellFormed ts` states that a given tree is made of the tokens `ts`.

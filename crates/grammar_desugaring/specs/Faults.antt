@@ -5,15 +5,15 @@
 -- are a rule of this product.
 use Rattle.std.specs.Prelude.{ℕ, Bool, List, [], ◌∷◌, ◌++◌, map, length, Option, Some, None, nat_eq, if◌then◌else◌}
 use Rattle.std.specs.List.{flat_map}
-use Rattle.grammar_trees.specs.grammar_tokens.declared.token.Token.{Token}
-use Rattle.grammar_trees.specs.grammar_tokens.Lexing.{spelling_of}
-use Rattle.grammar_trees.specs.grammar_tokens.declared.tree.PathTree.{PathTree}
-use Rattle.grammar_trees.specs.declared.tree.Access.{Access}
-use Rattle.grammar_trees.specs.declared.tree.Access.TheVariants as access
-use Rattle.grammar_trees.specs.declared.tree.RecordEntry.{RecordEntry}
-use Rattle.grammar_trees.specs.declared.tree.ExprTree.{ExprTree}
-use Rattle.grammar_trees.specs.declared.tree.ExprTree.TheOpen.{ExprTree-F as tree}
-use Rattle.grammar_trees.specs.declared.tree.ExprTree.TheFolds.{fold-ExprTree}
+use Rattle.grammar_syntax.specs.declared.token.Token.{Token}
+use Rattle.grammar_syntax.specs.Lexing.{spelling_of}
+use Rattle.grammar_syntax.specs.declared.name_trees.PathTree.{PathTree}
+use Rattle.grammar_syntax.specs.declared.tree.Access.{Access}
+use Rattle.grammar_syntax.specs.declared.tree.Access.TheVariants as access
+use Rattle.grammar_syntax.specs.declared.tree.RecordEntry.{RecordEntry}
+use Rattle.grammar_syntax.specs.declared.tree.ExprTree.{ExprTree}
+use Rattle.grammar_syntax.specs.declared.tree.ExprTree.TheOpen.{ExprTree-F as tree}
+use Rattle.grammar_syntax.specs.declared.tree.ExprTree.TheFolds.{fold-ExprTree}
 use Rattle.grammar_desugaring.specs.declared.fault.DesugarFault.{DesugarFault}
 use Rattle.grammar_desugaring.specs.declared.fault.DesugarFault.TheVariants.{NumberRange, UnknownCall, Arity}
 use Rattle.grammar_core.specs.Operators.{method_of, function_takes, method_takes}

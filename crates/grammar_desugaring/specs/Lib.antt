@@ -10,6 +10,5 @@ pub mod Strings
 pub mod Sums
 pub mod ReportedErrors
 pub mod inner
--- Specifications of lower crates, re-exported.
-pub use Rattle.grammar_trees.specs as grammar_trees
-pub use Rattle.grammar_trees.specs.grammar_tokens
+-- of this layer
+pub use Rattle.grammar_syntax.specs as grammar_syntax

@@ -2,19 +2,19 @@
 use Rattle.std.specs.Prelude.{ℕ, List, map}
 use Rattle.plain.specs.Words.{joined_path}
 use Rattle.values.specs.declared.entity_uid.EntityUid.{EntityUid}
-use Rattle.grammar_trees.specs.grammar_tokens.Lexing.{spelling_of}
+use Rattle.grammar_syntax.specs.Lexing.{spelling_of}
 use Rattle.grammar_core.specs.declared.leaf.Variable.{Variable}
 use Rattle.grammar_core.specs.declared.leaf.Variable.TheVariants.{Principal, Action, Resource, Context}
 use Rattle.grammar_core.specs.declared.operator.Binary.{Binary}
 use Rattle.grammar_core.specs.declared.operator.Binary.TheVariants.{Add, Subtract}
-use Rattle.grammar_trees.specs.grammar_tokens.declared.tree.PathTree.{PathTree}
-use Rattle.grammar_trees.specs.grammar_tokens.declared.tree.UidTree.{UidTree}
-use Rattle.grammar_trees.specs.declared.tree.KeyTree.{KeyTree}
-use Rattle.grammar_trees.specs.declared.tree.KeyTree.TheVariants.{Word, Quoted}
-use Rattle.grammar_trees.specs.declared.tree.Sign.{Sign}
-use Rattle.grammar_trees.specs.declared.tree.Sign.TheVariants.{Plus, Minus}
-use Rattle.grammar_trees.specs.declared.tree.RequestKeyword as tree
-use Rattle.grammar_trees.specs.declared.tree.RequestKeyword.TheVariants as word
+use Rattle.grammar_syntax.specs.declared.name_trees.PathTree.{PathTree}
+use Rattle.grammar_syntax.specs.declared.name_trees.UidTree.{UidTree}
+use Rattle.grammar_syntax.specs.declared.tree.KeyTree.{KeyTree}
+use Rattle.grammar_syntax.specs.declared.tree.KeyTree.TheVariants.{Word, Quoted}
+use Rattle.grammar_syntax.specs.declared.tree.Sign.{Sign}
+use Rattle.grammar_syntax.specs.declared.tree.Sign.TheVariants.{Plus, Minus}
+use Rattle.grammar_syntax.specs.declared.tree.RequestKeyword as tree
+use Rattle.grammar_syntax.specs.declared.tree.RequestKeyword.TheVariants as word
 use Rattle.grammar_desugaring.specs.Strings.{value_of}
 
 -- `variable_of word` is the variable of the keyword `word`.

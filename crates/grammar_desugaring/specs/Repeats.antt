@@ -5,7 +5,7 @@ use Rattle.std.specs.Str.{bytes_eq}
 use Rattle.grammar_desugaring.specs.declared.fault.DesugarFault.{DesugarFault}
 use Rattle.grammar_desugaring.specs.declared.fault.DesugarFault.TheVariants.{RepeatedKey}
 use Rattle.grammar_desugaring.specs.ReportedErrors.{least}
-pub use Rattle.grammar_trees.specs.Repeats.{NameAt, IsRepeatedAt, abstract_names}
+pub use Rattle.grammar_syntax.specs.Repeats.{NameAt, IsRepeatedAt, abstract_names}
 
 -- `places_of name marks` are the offsets at which `name` occurs in `marks`.
 abbrev pub places_of : List ℕ → List NameAt → List ℕ

@@ -1,7 +1,7 @@
 -- Defines functions that give a string its value, and a pattern its literal texts.
 -- Source: Cedar reference guide 4.0, "Data types: String" and "Operators: like".
 use Rattle.std.specs.Prelude.{◌≡◌, ℕ, List}
-use Rattle.grammar_trees.specs.grammar_tokens.Strings.{IsStringOf, IsPatternOf}
+use Rattle.grammar_syntax.specs.Strings.{IsStringOf, IsPatternOf}
 
 -- A `StringMeaning` has two functions of a string as it is written, with its quotes. `value` gives the value of a
 -- string without `\*`. `pattern` gives the literal texts before, between and after the wildcards of a string. Both

@@ -2,7 +2,7 @@
 -- strings and their escapes.
 -- Source: Cedar reference guide 4.0, "Data types: String" and "Operators: like".
 use Rattle.std.specs.Prelude.{◌≡◌, ℕ, List}
-use Rattle.grammar_trees.specs.grammar_tokens.Strings.{IsStringOf, IsPatternOf}
+use Rattle.grammar_syntax.specs.Strings.{IsStringOf, IsPatternOf}
 use Rattle.grammar_desugaring.specs.inner.StringReading.{string_meaning}
 
 -- `value_of spelling` is the value of `spelling`, a string without `\*`.

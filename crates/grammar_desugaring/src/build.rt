@@ -15,7 +15,7 @@ use crate::measuring::function_at;
 use crate::pairs::{add, both};
 use crate::words::name;
 use grammar_core::{Expr, Literal, Named, Unary, method_named};
-use grammar_trees::{Access, ExprTree, RecordEntry, Term, spelling};
+use grammar_syntax::{Access, ExprTree, RecordEntry, Term, spelling};
 use plain::{Boxed, Items, NoMemory};
 use std::alloc::Global;
 

@@ -1,11 +1,11 @@
 //! Core expressions made of their operands. An operand whose building may have failed is passed as a result; the
 //! functions return its error.
 ghost use Rattle.std.specs.Prelude.{◌≡◌, IfOk};
-ghost use Rattle.grammar_trees.specs.grammar_tokens.Lexing.{spelling_of};
+ghost use Rattle.grammar_syntax.specs.Lexing.{spelling_of};
 ghost use Rattle.grammar_core.specs.declared.operator.Unary.TheVariants as unary;
 ghost use Rattle.grammar_core.specs.declared.operator.Binary.TheVariants as binary;
 ghost use Rattle.grammar_core.specs.declared.expr.Expr.TheVariants as core;
-ghost use Rattle.grammar_trees.specs.Patterns.{patterns};
+ghost use Rattle.grammar_syntax.specs.Patterns.{patterns};
 ghost use Rattle.grammar_desugaring.specs.Strings.{pattern_of};
 ghost use Rattle.grammar_desugaring.specs.Meaning.{path_name, name_of};
 ghost use Rattle.grammar_desugaring.specs.Core as spec;
@@ -15,7 +15,7 @@ ghost use Rattle.grammar_desugaring.specs.inner.WellFormed.{TokenIn, KeyIn, Path
 use crate::pairs::{all_three, both};
 use crate::words::{name, path_type, pattern, sign};
 use grammar_core::{Binary, Expr, Named, Unary};
-use grammar_trees::{Comparison, KeyTree, PathTree, Sign, Token};
+use grammar_syntax::{Comparison, KeyTree, PathTree, Sign, Token};
 use plain::{NoMemory, Text, pair_with};
 use std::alloc::Global;
 

@@ -1,10 +1,10 @@
 //! Core expressions of a single token, or a uid.
 ghost use Rattle.std.specs.Prelude.{◌≡◌, IfOk};
-ghost use Rattle.grammar_trees.specs.grammar_tokens.declared.token.TokenKind.TheVariants as k;
-ghost use Rattle.grammar_trees.specs.grammar_tokens.Lexing.{spelling_of};
+ghost use Rattle.grammar_syntax.specs.declared.token.TokenKind.TheVariants as k;
+ghost use Rattle.grammar_syntax.specs.Lexing.{spelling_of};
 ghost use Rattle.grammar_core.specs.declared.leaf.Literal.TheVariants as literal;
 ghost use Rattle.grammar_core.specs.declared.expr.Expr.TheVariants as core;
-ghost use Rattle.grammar_trees.specs.grammar_tokens.Kinds.{only};
+ghost use Rattle.grammar_syntax.specs.Kinds.{only};
 ghost use Rattle.grammar_desugaring.specs.Strings.{value_of};
 ghost use Rattle.grammar_desugaring.specs.Numbers.{positive, negative};
 ghost use Rattle.grammar_desugaring.specs.Meaning.{variable_of, uid_of};
@@ -14,20 +14,20 @@ ghost use Rattle.grammar_desugaring.specs.inner.WellFormed.{TokenIn, UidIn};
 use crate::numbers;
 use crate::words::{path_type, string};
 use grammar_core::{Expr, Literal, Variable};
-use grammar_trees::{Token, UidTree, spelling};
+use grammar_syntax::{Token, UidTree, spelling};
 use plain::{NoMemory, Text};
 use std::alloc::Global;
 use values::{EntityUid, SharedText};
 
 /// Returns the variable of a keyword.
-pub(crate) fn variable(word: grammar_trees::RequestKeyword) -> Expr
+pub(crate) fn variable(word: grammar_syntax::RequestKeyword) -> Expr
     ensures { result ≡ core.Variable (variable_of word) }
 {
     match word {
-        grammar_trees::RequestKeyword::Principal => Expr::Variable(Variable::Principal),
-        grammar_trees::RequestKeyword::Action => Expr::Variable(Variable::Action),
-        grammar_trees::RequestKeyword::Resource => Expr::Variable(Variable::Resource),
-        grammar_trees::RequestKeyword::Context => Expr::Variable(Variable::Context),
+        grammar_syntax::RequestKeyword::Principal => Expr::Variable(Variable::Principal),
+        grammar_syntax::RequestKeyword::Action => Expr::Variable(Variable::Action),
+        grammar_syntax::RequestKeyword::Resource => Expr::Variable(Variable::Resource),
+        grammar_syntax::RequestKeyword::Context => Expr::Variable(Variable::Context),
     }
 }
 

@@ -18,11 +18,12 @@ mod whole;
 mod words;
 
 pub use fault::{DesugarFault, earlier_of};
-pub use grammar_trees::{
-    LexFault, NameAt, Token, TokenKind, decode_string, lexing_is_unique, spelling,
-    strings_have_one_meaning, tokens,
-};
 pub use laws::{least_fault_is_reported, measures_add_up, repeats_are_exact, strings_are_read};
 pub use measure::Measure;
 pub use repeats::first_duplicate;
 pub use whole::{build_expr, measure_expr, type_name};
+
+// of this layer
+pub use grammar_syntax::{
+    LexFault, NameAt, Token, TokenKind, decode_string, spelling, strings_have_one_meaning, tokens,
+};

@@ -2,10 +2,10 @@
 //! offset. They allocate only for the keys of records.
 ghost use Rattle.std.specs.Prelude.{◌≡◌, IfOk};
 ghost use Rattle.std.specs.List.{AllByRecursion, fold};
-ghost use Rattle.grammar_trees.specs.grammar_tokens.declared.token.TokenKind.TheVariants as k;
-ghost use Rattle.grammar_trees.specs.grammar_tokens.Lexing.{spelling_of};
-ghost use Rattle.grammar_trees.specs.grammar_tokens.Kinds.{only};
-ghost use Rattle.grammar_trees.specs.grammar_tokens.Grammar.{identifiers};
+ghost use Rattle.grammar_syntax.specs.declared.token.TokenKind.TheVariants as k;
+ghost use Rattle.grammar_syntax.specs.Lexing.{spelling_of};
+ghost use Rattle.grammar_syntax.specs.Kinds.{only};
+ghost use Rattle.grammar_syntax.specs.Grammar.{identifiers};
 ghost use Rattle.grammar_desugaring.specs.Core.{function};
 ghost use Rattle.grammar_core.specs.Operators.{method_takes, method_of};
 ghost use Rattle.grammar_desugaring.specs.Numbers as number;
@@ -24,7 +24,7 @@ use crate::measure::Measure;
 use crate::numbers::{fits, fits_negated};
 use crate::repeats::repeated_key;
 use grammar_core::{UnaryCall, function_named, method_named};
-use grammar_trees::{Access, Comparison, ExprTree, PathTree, RecordEntry, Term, Token, spelling};
+use grammar_syntax::{Access, Comparison, ExprTree, PathTree, RecordEntry, Term, Token, spelling};
 use plain::{Boxed, Items, NoMemory};
 use std::alloc::Global;
 

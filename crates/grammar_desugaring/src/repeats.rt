@@ -9,7 +9,7 @@ ghost use Rattle.grammar_desugaring.specs.inner.Searching.{repeat_fault, held};
 
 use crate::fault::DesugarFault;
 use crate::words::{name, place};
-use grammar_trees::{ExprTree, NameAt, RecordEntry, least_offset};
+use grammar_syntax::{ExprTree, NameAt, RecordEntry, least_offset};
 use plain::{NoMemory, Text};
 use std::alloc::Global;
 

@@ -1,6 +1,6 @@
 //! The measure and the core expression of a whole tree.
 ghost use Rattle.std.specs.Prelude.{◌≡◌, [], IfOk};
-ghost use Rattle.grammar_trees.specs.WellFormed.{WellFormedExpr, WellFormedPath};
+ghost use Rattle.grammar_syntax.specs.WellFormed.{WellFormedExpr, WellFormedPath};
 ghost use Rattle.grammar_desugaring.specs.BuiltFrom.{IsBuiltFrom};
 ghost use Rattle.grammar_desugaring.specs.Meaning.{path_name};
 ghost use Rattle.grammar_desugaring.specs.Core.{core_of};
@@ -12,7 +12,7 @@ use crate::measure::Measure;
 use crate::measuring::measure_tree;
 use crate::words::path_type;
 use grammar_core::Expr;
-use grammar_trees::{ExprTree, PathTree};
+use grammar_syntax::{ExprTree, PathTree};
 use plain::NoMemory;
 use std::alloc::Global;
 use values::TypeName;

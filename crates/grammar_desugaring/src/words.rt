@@ -1,17 +1,17 @@
 //! The meanings of signs, strings, keys and Paths.
 ghost use Rattle.std.specs.Prelude.{◌≡◌, ◌∷◌, IfOk, map};
 ghost use Rattle.plain.specs.Words.{AreIdents};
-ghost use Rattle.grammar_trees.specs.grammar_tokens.Lexing.{spelling_of};
-ghost use Rattle.grammar_trees.specs.grammar_tokens.declared.token.TokenKind.TheVariants as k;
-ghost use Rattle.grammar_trees.specs.grammar_tokens.Kinds.{only};
-ghost use Rattle.grammar_trees.specs.grammar_tokens.Grammar.{identifiers};
-ghost use Rattle.grammar_trees.specs.Patterns.{patterns};
+ghost use Rattle.grammar_syntax.specs.Lexing.{spelling_of};
+ghost use Rattle.grammar_syntax.specs.declared.token.TokenKind.TheVariants as k;
+ghost use Rattle.grammar_syntax.specs.Kinds.{only};
+ghost use Rattle.grammar_syntax.specs.Grammar.{identifiers};
+ghost use Rattle.grammar_syntax.specs.Patterns.{patterns};
 ghost use Rattle.grammar_desugaring.specs.inner.WellFormed.{TokenIn, KeyIn, PathIn};
 ghost use Rattle.grammar_desugaring.specs.Strings.{value_of, pattern_of};
 ghost use Rattle.grammar_desugaring.specs.Meaning.{sign_of, path_name, name_of, place_of};
 
 use grammar_core::{Binary, Pattern};
-use grammar_trees::{KeyTree, PathTree, Sign, Token, decode_pattern, decode_string, spelling};
+use grammar_syntax::{KeyTree, PathTree, Sign, Token, decode_pattern, decode_string, spelling};
 use plain::{NoMemory, Text};
 use std::alloc::Global;
 use values::TypeName;

@@ -5,10 +5,10 @@ use Rattle.http.specs.declared.status.StatusCode.{StatusCode}
 use Rattle.http_streams.specs.Serving.{IsAnswered}
 use Rattle.http_streams.specs.declared.serve.LoggedFault.{LoggedFault}
 use Rattle.http_streams.proofs.Simulated.{answered}
-use Rattle.site_calls.specs.site_steps.schema.Views.{schema_view}
-use Rattle.site_calls.specs.site_steps.SiteViews.{SiteView, schema_of, store_in, IsSameSite}
-use Rattle.site_calls.specs.site_steps.Runs.{Run}
-use Rattle.site_calls.proofs.of_site_steps.RunLemmas.{run_push, same_step}
+use Rattle.http_replies.specs.schema.Views.{schema_view}
+use Rattle.http_replies.specs.site.SiteViews.{SiteView, schema_of, store_in, IsSameSite}
+use Rattle.http_replies.specs.site.Runs.{Run}
+use Rattle.http_replies.proofs.of_site.RunLemmas.{run_push, same_step}
 use Rattle.http_service.specs.Routes.{Asked, route_stated}
 use Rattle.http_service.specs.RequestReplies.{RepliesTo, answers_over}
 use Rattle.http_service.specs.Serving.{Served, before_requests, Continues, ContinuesRequest, IsServed}

@@ -16,8 +16,8 @@ use Rattle.serde_json.specs.Find.{as_str, get}
 use Rattle.serde_json.specs.Written.{comma_if, compact_text, items_text, members_text}
 use Rattle.http.specs.declared.status.StatusCode.{StatusCode}
 use Rattle.http_service.specs.Routes.{Asked, route_stated}
-use Rattle.site_calls.specs.site_steps.Inputs.{Input}
-use Rattle.site_calls.specs.site_steps.Inputs as input
+use Rattle.http_replies.specs.site.Inputs.{Input}
+use Rattle.http_replies.specs.site.Inputs as input
 use Rattle.http_service.specs.LogLines.{decision_tail, head_text, inner_text, IsLogLine, IsUndone, log_line, made_tail}
 use Rattle.http_service.specs.LogLines.{member_text, members_text as asked_text, name_text, named_text, object_text, plain_tail}
 use Rattle.http_service.specs.LogLines.{stamp_tail, status_text, string_or_null, tail_of, text_of, uid_text, unread_line}

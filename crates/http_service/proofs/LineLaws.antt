@@ -12,33 +12,33 @@ use Rattle.http_service.specs.LogLines.{IsLogLine, IsUndone, head_text, made_tai
 use Rattle.http_service.specs.LogLines.{unread_line}
 use Rattle.http_service.specs.OneLine.{HasNoLineFeed, IsOneLine}
 use Rattle.http_service.specs.Routes.{Asked, route_stated}
-use Rattle.site_calls.proofs.LineLemmas.{stamp_pieces, put_pieces}
-use Rattle.site_calls.specs.answer_lines.Lines.{answer_json, answer_line}
-use Rattle.site_calls.specs.answer_lines.Refusals.{error_line, refusal_json}
-use Rattle.site_calls.specs.inner.Pieces.{boolean_word, site_end}
-use Rattle.site_calls.specs.Answers.{Replies}
-use Rattle.site_calls.specs.Lines.{fault_line, found_json, found_line, put_line, stamp_line, taken_line}
-use Rattle.site_calls.specs.Replies.{fault_reply, put_reply, stamp_reply}
-use Rattle.site_calls.specs.Reports.{reported}
-use Rattle.site_calls.specs.site_steps.Faults.{code_of, place_of, within_of}
-use Rattle.site_calls.specs.site_steps.Inputs.{Input}
-use Rattle.site_calls.specs.site_steps.Inputs as input
-use Rattle.site_calls.specs.site_steps.Readings.{parsed}
-use Rattle.site_calls.specs.site_steps.Runs.{Step}
-use Rattle.site_calls.specs.site_steps.SiteViews.{SiteView, schema_of, store_in}
-use Rattle.site_calls.specs.site_steps.Steps.{DeletesEntity, DeletesPolicy, PutsEntity, PutsPolicy, Records, most_count}
-use Rattle.site_calls.specs.site_steps.declared.fault.SiteFault.{SiteFault}
-use Rattle.site_calls.specs.site_steps.declared.fault.SiteFault.TheVariants as fault
-use Rattle.site_calls.specs.site_steps.declared.outcome.Put.{Put}
-use Rattle.site_calls.specs.site_steps.declared.outcome.Taken.TheVariants.{All, Short}
-use Rattle.site_calls.specs.site_steps.declared.reply.Reply.{Reply}
-use Rattle.site_calls.specs.site_steps.declared.reply.Reply.TheVariants as told
-use Rattle.site_calls.specs.site_steps.entities.Canonical.{canonical_text}
-use Rattle.site_calls.specs.site_steps.schema.Schemas.{StatedSchema}
-use Rattle.site_calls.specs.site_steps.stamped_store.Greatest.{greatest_count}
-use Rattle.site_calls.specs.site_steps.stamped_store.SiteNames.{IsSiteName}
-use Rattle.site_calls.specs.site_steps.stamped_store.Store.{Store, entity_name, issue, policy_name}
-use Rattle.site_calls.specs.site_steps.stamped_store.declared.entry.Stamp.{Stamp}
+use Rattle.http_replies.proofs.LineLemmas.{stamp_pieces, put_pieces}
+use Rattle.http_replies.specs.answer_lines.Lines.{answer_json, answer_line}
+use Rattle.http_replies.specs.answer_lines.Refusals.{error_line, refusal_json}
+use Rattle.http_replies.specs.inner.Pieces.{boolean_word, site_end}
+use Rattle.http_replies.specs.Answers.{Replies}
+use Rattle.http_replies.specs.Lines.{fault_line, found_json, found_line, put_line, stamp_line, taken_line}
+use Rattle.http_replies.specs.Replies.{fault_reply, put_reply, stamp_reply}
+use Rattle.http_replies.specs.Reports.{reported}
+use Rattle.http_replies.specs.site.Faults.{code_of, place_of, within_of}
+use Rattle.http_replies.specs.site.Inputs.{Input}
+use Rattle.http_replies.specs.site.Inputs as input
+use Rattle.http_replies.specs.site.Readings.{parsed}
+use Rattle.http_replies.specs.site.Runs.{Step}
+use Rattle.http_replies.specs.site.SiteViews.{SiteView, schema_of, store_in}
+use Rattle.http_replies.specs.site.Steps.{DeletesEntity, DeletesPolicy, PutsEntity, PutsPolicy, Records, most_count}
+use Rattle.http_replies.specs.site.declared.fault.SiteFault.{SiteFault}
+use Rattle.http_replies.specs.site.declared.fault.SiteFault.TheVariants as fault
+use Rattle.http_replies.specs.site.declared.outcome.Put.{Put}
+use Rattle.http_replies.specs.site.declared.outcome.Taken.TheVariants.{All, Short}
+use Rattle.http_replies.specs.site.declared.reply.Reply.{Reply}
+use Rattle.http_replies.specs.site.declared.reply.Reply.TheVariants as told
+use Rattle.http_replies.specs.entities.Canonical.{canonical_text}
+use Rattle.http_replies.specs.schema.Schemas.{StatedSchema}
+use Rattle.http_replies.specs.stamped_store.Greatest.{greatest_count}
+use Rattle.http_replies.specs.stamped_store.SiteNames.{IsSiteName}
+use Rattle.http_replies.specs.stamped_store.Store.{Store, entity_name, issue, policy_name}
+use Rattle.http_replies.specs.stamped_store.declared.entry.Stamp.{Stamp}
 use Rattle.values.specs.declared.name.Name.{Name}
 use Rattle.http_service.specs.RequestReplies.{RepliesTo, answers}
 use Rattle.http_service.specs.Lines.{IsChange, stamped_end}

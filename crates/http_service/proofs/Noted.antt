@@ -6,18 +6,18 @@ use Rattle.std.proofs.lemmas.List.{drop_at, take_at}
 use Rattle.http.specs.declared.status.StatusCode.{StatusCode}
 use Rattle.http_service.specs.LogLines.{IsDecision, IsUndone, head_text, plain_tail, tail_of, text_of, unread_line}
 use Rattle.http_service.specs.Routes.{Asked, has_id, route_stated}
-use Rattle.site_calls.proofs.CallSteps.{lacks}
-use Rattle.site_calls.proofs.LineLemmas.{one_line}
-use Rattle.site_calls.specs.Replies.{fault_reply, status_reply}
-use Rattle.site_calls.specs.site_steps.Inputs.{Input}
-use Rattle.site_calls.specs.site_steps.Inputs as input
-use Rattle.site_calls.specs.site_steps.Runs.{Step}
-use Rattle.site_calls.specs.site_steps.SiteViews.{SiteView, schema_of, store_in}
-use Rattle.site_calls.specs.site_steps.declared.fault.SiteFault.TheVariants as fault
-use Rattle.site_calls.specs.site_steps.declared.reply.Reply.{Reply}
-use Rattle.site_calls.specs.site_steps.declared.reply.Reply.TheVariants as reply
-use Rattle.site_calls.specs.site_steps.schema.Schemas.{StatedSchema}
-use Rattle.site_calls.specs.site_steps.stamped_store.Store.{Store}
+use Rattle.http_replies.proofs.CallSteps.{lacks}
+use Rattle.http_replies.proofs.LineLemmas.{one_line}
+use Rattle.http_replies.specs.Replies.{fault_reply, status_reply}
+use Rattle.http_replies.specs.site.Inputs.{Input}
+use Rattle.http_replies.specs.site.Inputs as input
+use Rattle.http_replies.specs.site.Runs.{Step}
+use Rattle.http_replies.specs.site.SiteViews.{SiteView, schema_of, store_in}
+use Rattle.http_replies.specs.site.declared.fault.SiteFault.TheVariants as fault
+use Rattle.http_replies.specs.site.declared.reply.Reply.{Reply}
+use Rattle.http_replies.specs.site.declared.reply.Reply.TheVariants as reply
+use Rattle.http_replies.specs.schema.Schemas.{StatedSchema}
+use Rattle.http_replies.specs.stamped_store.Store.{Store}
 use Rattle.http_service.specs.RequestReplies.{RepliesTo}
 use Rattle.http_service.specs.inner.AppendedAnswers.{AppendsTo, AnswersWithLine, AnswersWithTail, IsUndoneReply}
 

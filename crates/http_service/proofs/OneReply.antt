@@ -2,20 +2,20 @@
 use Rattle.std.proofs.Common.{◌≡◌, ◌≢◌, ℕ, List, Ok, Err, refl, sym, ap, ◌∙◌, subst}
 use Rattle.http.specs.declared.status.StatusCode.{StatusCode}
 use Rattle.http_streams.specs.Laws.{HasOneAnswer, in_memory}
-use Rattle.site_calls.specs.site_steps.schema.Schemas.{StatedSchema, IsSchemaOf}
-use Rattle.site_calls.specs.site_steps.schema.Views.{schema_view, IsStated}
-use Rattle.site_calls.specs.site_steps.schema.SchemaEntries.{SchemaEntries}
-use Rattle.site_calls.specs.site_steps.stamped_store.Store.{Store}
-use Rattle.site_calls.specs.site_steps.SiteViews.{SiteView, schema_of, store_in, IsSameSite}
-use Rattle.site_calls.specs.site_steps.declared.fault.SiteFault.TheVariants as fault
-use Rattle.site_calls.specs.site_steps.declared.outcome.Taken.TheVariants.{Short}
-use Rattle.site_calls.specs.site_steps.Inputs.{Input}
-use Rattle.site_calls.specs.site_steps.declared.reply.Reply.{Reply}
-use Rattle.site_calls.specs.site_steps.declared.reply.Reply.TheVariants as reply
-use Rattle.site_calls.specs.site_steps.Outcomes.{IsWhole, InputsHaveOneOutcome}
-use Rattle.site_calls.specs.site_steps.Runs.{Step}
+use Rattle.http_replies.specs.schema.Schemas.{StatedSchema, IsSchemaOf}
+use Rattle.http_replies.specs.schema.Views.{schema_view, IsStated}
+use Rattle.http_replies.specs.schema.SchemaEntries.{SchemaEntries}
+use Rattle.http_replies.specs.stamped_store.Store.{Store}
+use Rattle.http_replies.specs.site.SiteViews.{SiteView, schema_of, store_in, IsSameSite}
+use Rattle.http_replies.specs.site.declared.fault.SiteFault.TheVariants as fault
+use Rattle.http_replies.specs.site.declared.outcome.Taken.TheVariants.{Short}
+use Rattle.http_replies.specs.site.Inputs.{Input}
+use Rattle.http_replies.specs.site.declared.reply.Reply.{Reply}
+use Rattle.http_replies.specs.site.declared.reply.Reply.TheVariants as reply
+use Rattle.http_replies.specs.site.Outcomes.{IsWhole, InputsHaveOneOutcome}
+use Rattle.http_replies.specs.site.Runs.{Step}
 use Rattle.http_service.specs.Routes.{Asked, route_stated}
-use Rattle.site_calls.specs.Reports.{reported}
+use Rattle.http_replies.specs.Reports.{reported}
 use Rattle.http_service.specs.RequestReplies.{IsAlike, RepliesTo, answers}
 
 -- ---- memory sufficed where the status does not say that it did not

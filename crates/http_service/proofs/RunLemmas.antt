@@ -3,13 +3,13 @@ use Rattle.std.proofs.Common.{◌≡◌, ℕ, zero, suc, Bool, true, false, List
 use Rattle.std.proofs.Common.{inr}
 use Rattle.http.specs.declared.status.StatusCode.{StatusCode}
 use Rattle.http_streams.specs.Stream.{Closes, EndsByReply, Exchanges, RepliesInPart, AnswersAllRequests, Serves, StopsWithinReply}
-use Rattle.site_calls.specs.site_steps.schema.Schemas.{StatedSchema}
-use Rattle.site_calls.specs.site_steps.schema.Views.{schema_view}
-use Rattle.site_calls.specs.site_steps.stamped_store.Store.{Store, store_of, updates}
-use Rattle.site_calls.specs.site_steps.SiteViews.{SiteView, schema_of, store_in, IsSameSite}
-use Rattle.site_calls.specs.site_steps.Runs.{Run, took}
-use Rattle.site_calls.specs.site_steps.Inputs.{Input}
-use Rattle.site_calls.specs.site_steps.declared.reply.Reply.{Reply}
+use Rattle.http_replies.specs.schema.Schemas.{StatedSchema}
+use Rattle.http_replies.specs.schema.Views.{schema_view}
+use Rattle.http_replies.specs.stamped_store.Store.{Store, store_of, updates}
+use Rattle.http_replies.specs.site.SiteViews.{SiteView, schema_of, store_in, IsSameSite}
+use Rattle.http_replies.specs.site.Runs.{Run, took}
+use Rattle.http_replies.specs.site.Inputs.{Input}
+use Rattle.http_replies.specs.site.declared.reply.Reply.{Reply}
 use Rattle.http_service.specs.Routes.{Asked, route_stated}
 use Rattle.http_service.specs.RequestReplies.{RepliesTo, answers}
 use Rattle.http_service.specs.Streams.{inputs_of, HaveInputs, LeavesRun}

@@ -9,8 +9,8 @@ use Rattle.http_streams.specs.declared.serve.LoggedFault.{LoggedFault}
 use Rattle.http_streams.specs.declared.serve.LoggedFault.TheVariants.{Stream, Log}
 use Rattle.http_streams.specs.declared.serve.StreamFault.TheVariants as fault
 use Rattle.http_streams.proofs.Simulated.{answered}
-use Rattle.site_calls.specs.site_steps.SiteViews.{SiteView}
-use Rattle.site_calls.specs.site_steps.Inputs.{Input}
+use Rattle.http_replies.specs.site.SiteViews.{SiteView}
+use Rattle.http_replies.specs.site.Inputs.{Input}
 use Rattle.http_service.specs.Routes.{Asked, route_stated}
 use Rattle.http_service.specs.RequestReplies.{RepliesTo, answers}
 use Rattle.http_service.specs.Streams.{inputs_of, HaveInputs, LeavesRun}

@@ -6,7 +6,7 @@ use Rattle.http_streams.proofs.OneRequest.{nothing_unfinished}
 use Rattle.http_streams.specs.Logs.{IsLogged, LineRelation}
 use Rattle.http_streams.specs.declared.serve.LoggedFault.TheVariants.{Stream}
 use Rattle.http_streams.specs.declared.serve.StreamFault.TheVariants as fault
-use Rattle.site_calls.specs.site_steps.SiteViews.{SiteView, schema_of, store_in}
+use Rattle.http_replies.specs.site.SiteViews.{SiteView, schema_of, store_in}
 use Rattle.http_service.specs.Serving.{IsServed}
 use Rattle.http_service.proofs.RunLemmas.{RunsTake}
 

@@ -4,7 +4,7 @@
 use Rattle.std.specs.Prelude.{ℕ, List, ◌++◌, codes, Ok}
 use Rattle.http_service.specs.LogLines.{status_text}
 use Rattle.http_service.specs.Routes.{Asked}
-use Rattle.site_calls.specs.site_steps.Inputs.{PutPolicy, DeletePolicy, PutEntity, DeleteEntity}
+use Rattle.http_replies.specs.site.Inputs.{PutPolicy, DeletePolicy, PutEntity, DeleteEntity}
 
 -- `IsChange asked` holds if a request that asks for `asked` puts or deletes a policy or an entity.
 abbrev pub IsChange : Asked → Type 0

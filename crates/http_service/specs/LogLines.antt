@@ -13,7 +13,7 @@ use Rattle.json_words.specs.Json.{json_of, text_at}
 use Rattle.http.specs.declared.status.StatusCode.{StatusCode}
 use Rattle.http_streams.specs.ReplyText.{error_line}
 use Rattle.http_service.specs.Routes.{Asked, route_stated}
-use Rattle.site_calls.specs.site_steps.Inputs.{Input, PutPolicy, DeletePolicy, PutEntity, DeleteEntity, Authorize}
+use Rattle.http_replies.specs.site.Inputs.{Input, PutPolicy, DeletePolicy, PutEntity, DeleteEntity, Authorize}
 
 -- `string_or_null text` is `text` as a JSON string, in which control characters below U+0020 are escaped; or null for
 -- `None`.

@@ -5,10 +5,10 @@
 use Rattle.std.specs.Prelude.{◌≡◌, ℕ, List, Ok, Err}
 use Rattle.http.specs.declared.status.StatusCode.{StatusCode}
 use Rattle.http_service.specs.Routes.{Asked, route_stated}
-use Rattle.site_calls.specs.Answers.{Replies}
-use Rattle.site_calls.specs.Replies.{status_reply}
-use Rattle.site_calls.specs.site_steps.schema.Views.{IsStated}
-use Rattle.site_calls.specs.site_steps.SiteViews.{SiteView, store_in, IsSameSite}
+use Rattle.http_replies.specs.Answers.{Replies}
+use Rattle.http_replies.specs.Replies.{status_reply}
+use Rattle.http_replies.specs.schema.Views.{IsStated}
+use Rattle.http_replies.specs.site.SiteViews.{SiteView, store_in, IsSameSite}
 use Rattle.http_service.specs.declared.site_service.LoggedService.{LoggedService}
 use Rattle.http_service.specs.declared.site_service.SiteService.{SiteService}
 

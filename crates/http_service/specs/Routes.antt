@@ -8,8 +8,8 @@ use Rattle.std.specs.Prelude.{Result, Ok, Err, if◌then◌else◌, codes, bytes
 use Rattle.std.specs.List.{list_any, before_first}
 use Rattle.percent_encoding.specs.Percent.{percent_decode}
 use Rattle.http.specs.declared.status.StatusCode.{StatusCode}
-use Rattle.site_calls.specs.site_steps.Inputs.{Input, input_of, PutPolicy, DeletePolicy, PutEntity, DeleteEntity}
-use Rattle.site_calls.specs.site_steps.Inputs.{Take, Authorize, GetPolicy, State, Summary, Delta}
+use Rattle.http_replies.specs.site.Inputs.{Input, input_of, PutPolicy, DeletePolicy, PutEntity, DeleteEntity}
+use Rattle.http_replies.specs.site.Inputs.{Take, Authorize, GetPolicy, State, Summary, Delta}
 use Rattle.http_service.specs.declared.route.Route.{Route}
 use Rattle.http_service.specs.declared.route.Route.TheVariants as route
 

@@ -5,13 +5,13 @@ use Rattle.std.specs.Prelude.{◌≡◌, ℕ, List, [], ◌∷◌, ◌++◌, Opt
 use Rattle.http.specs.declared.status.StatusCode.{StatusCode}
 use Rattle.http_streams.specs.Serving.{IsAnswered}
 use Rattle.http_streams.specs.declared.serve.LoggedFault.{LoggedFault}
-use Rattle.site_calls.specs.site_steps.stamped_store.Store.{store_of, updates}
-use Rattle.site_calls.specs.site_steps.SiteViews.{SiteView, schema_of, store_in, IsSameSite}
-use Rattle.site_calls.specs.site_steps.Runs.{Step, Run, took}
-use Rattle.site_calls.specs.site_steps.Inputs.{Input}
-use Rattle.site_calls.specs.site_steps.declared.reply.Reply.{Reply}
+use Rattle.http_replies.specs.stamped_store.Store.{store_of, updates}
+use Rattle.http_replies.specs.site.SiteViews.{SiteView, schema_of, store_in, IsSameSite}
+use Rattle.http_replies.specs.site.Runs.{Step, Run, took}
+use Rattle.http_replies.specs.site.Inputs.{Input}
+use Rattle.http_replies.specs.site.declared.reply.Reply.{Reply}
 use Rattle.http_service.specs.Routes.{Asked, route_stated}
-use Rattle.site_calls.specs.Reports.{reported}
+use Rattle.http_replies.specs.Reports.{reported}
 use Rattle.http_service.specs.RequestReplies.{RepliesTo}
 
 -- A `Served` is a site served over a stream, with the inputs that requests gave it so far and its reply to each.

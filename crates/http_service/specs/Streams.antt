@@ -3,11 +3,11 @@
 use Rattle.std.specs.Prelude.{◌≡◌, ℕ, suc, zero, List, [], ◌∷◌, ◌++◌, Ok, Err}
 use Rattle.httparse.specs.Grammar.{RequestHead}
 use Rattle.http_streams.specs.Request.{ReadsWhole}
-use Rattle.site_calls.specs.site_steps.stamped_store.Store.{store_of, updates}
-use Rattle.site_calls.specs.site_steps.SiteViews.{SiteView, schema_of, store_in, IsSameSite}
-use Rattle.site_calls.specs.site_steps.Runs.{Run, took}
-use Rattle.site_calls.specs.site_steps.Inputs.{Input}
-use Rattle.site_calls.specs.site_steps.declared.reply.Reply.{Reply}
+use Rattle.http_replies.specs.stamped_store.Store.{store_of, updates}
+use Rattle.http_replies.specs.site.SiteViews.{SiteView, schema_of, store_in, IsSameSite}
+use Rattle.http_replies.specs.site.Runs.{Run, took}
+use Rattle.http_replies.specs.site.Inputs.{Input}
+use Rattle.http_replies.specs.site.declared.reply.Reply.{Reply}
 use Rattle.http_service.specs.Routes.{Asked, route_stated}
 
 -- `inputs_of asked` is the list of the inputs of a request that asks for `asked`: that input, or `[]`.

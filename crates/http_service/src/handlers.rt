@@ -11,8 +11,8 @@ use crate::log_line::{put_head, put_plain_tail, put_tail, put_unread_line};
 use crate::route::Route;
 use crate::routing::route_of;
 use http::StatusCode;
+use http_replies::{Site, SiteFault, reply_to, report_fault, report_status};
 use json_words::Scratch;
-use site_calls::{Site, SiteFault, reply_to, report_fault, report_status};
 use std::alloc::Global;
 
 /// Answers a request that asks for `route`: appends the body of the reply to `text`, and returns the status.

@@ -8,27 +8,27 @@ ghost use Rattle.http_service.specs.Routes.{route_stated};
 ghost use Rattle.http_streams.specs.Laws.{AgreeOn, AnswersAll, BeginsAnswer, HasOneAnswer, StopsIn, in_memory};
 ghost use Rattle.http_streams.specs.Serving.{IsAnswered};
 ghost use Rattle.http_streams.specs.Stream.{EndsByReply, AnswersAllRequests, StopsWithinReply};
-ghost use Rattle.site_calls.specs.Lines.{put_line, stamp_line};
-ghost use Rattle.site_calls.specs.site_steps.SiteViews.{SiteView};
-ghost use Rattle.site_calls.specs.site_steps.Steps.{most_count};
-ghost use Rattle.site_calls.specs.site_steps.stamped_store.SiteNames.{IsSiteName};
-ghost use Rattle.site_calls.specs.site_steps.stamped_store.declared.entry.Stamp.{Stamp};
-ghost use Rattle.site_calls.specs.site_steps.Inputs.{Input};
-ghost use Rattle.site_calls.specs.site_steps.declared.reply.Reply.{Reply};
-ghost use Rattle.site_calls.specs.site_steps.schema.Views.{IsStated};
-ghost use Rattle.site_calls.specs.site_steps.Permitted.{IsPermittedReply};
-ghost use Rattle.site_calls.specs.Answers.{Replies};
-ghost use Rattle.site_calls.specs.Reports.{reported};
+ghost use Rattle.http_replies.specs.Lines.{put_line, stamp_line};
+ghost use Rattle.http_replies.specs.site.SiteViews.{SiteView};
+ghost use Rattle.http_replies.specs.site.Steps.{most_count};
+ghost use Rattle.http_replies.specs.stamped_store.SiteNames.{IsSiteName};
+ghost use Rattle.http_replies.specs.stamped_store.declared.entry.Stamp.{Stamp};
+ghost use Rattle.http_replies.specs.site.Inputs.{Input};
+ghost use Rattle.http_replies.specs.site.declared.reply.Reply.{Reply};
+ghost use Rattle.http_replies.specs.schema.Views.{IsStated};
+ghost use Rattle.http_replies.specs.site.Permitted.{IsPermittedReply};
+ghost use Rattle.http_replies.specs.Answers.{Replies};
+ghost use Rattle.http_replies.specs.Reports.{reported};
 ghost use Rattle.http_service.specs.RequestReplies.{IsAlike, answers};
 ghost use Rattle.http_service.specs.Lines.{IsChange, stamped_end};
 ghost use Rattle.http_service.specs.Serving.{IsServed};
 ghost use Rattle.http_service.specs.Streams.{HaveInputs, LeavesRun};
 
 use crate::site_service::ViewedSite;
+use http_replies::{inputs_have_one_outcome, runs_are_sound, runs_leave_what_they_took};
 use http_streams::laws::{begins_answer, one_answer};
 use http_streams::serve::LoggedFault;
 use http_streams::{Sink, Source};
-use site_calls::{inputs_have_one_outcome, runs_are_sound, runs_leave_what_they_took};
 
 /// Proves that, however a stream of requests ends, the site afterwards is the result of a run. Its inputs are those
 /// that the first requests of the stream ask for, in order. So the store of the site is the join of the updates that

@@ -2,7 +2,7 @@
 //! line that a log gets for each request.
 //!
 //! Nothing here opens a socket or writes to a file: lines are made in memory, and a stream writes each before its
-//! reply. `site_calls` defines the reply to an input of a site, which is one step of the site.
+//! reply. `http_replies` defines the reply to an input of a site, which is one step of the site.
 #![tactic(auto)]
 
 mod handlers;
@@ -16,11 +16,6 @@ mod routing;
 mod serving;
 mod site_service;
 
-pub use http_streams::fetch::{FetchFault, fetch};
-pub use http_streams::serve::{LoggedFault, StreamFault};
-pub use http_streams::{
-    Ask, Counted, Fed, Kept, Plan, Sink, Source, is_host, is_method, is_target,
-};
 pub use laws::{
     change_lines_have_stamps, cuts_make_no_difference, requests_have_one_reply,
     served_answers_are_sound, served_lines_are_one_line, served_streams_are_answered,
@@ -30,12 +25,19 @@ pub use log_laws::{decision_lines_name_requests, lines_have_one_line_feed};
 pub use route::Route;
 pub use routing::route_of;
 pub use serving::{serve, serve_logged};
-pub use site_calls::{
-    Answer, Event, EventReply, Found, Input, LINE_ROOM, Operation, Put, Refusal, Reply, Site,
-    SiteFault, SiteName, Stamp, Taken, World, answer_line, error_line, report_fault, report_put,
-    report_stamp, report_taken, simulate,
-};
 pub use site_service::{LoggedService, SiteService};
+
+// of this layer
+pub use http_replies::{LINE_ROOM, report_fault, report_put, report_stamp, report_taken};
+pub use http_streams::fetch::{FetchFault, fetch};
+pub use http_streams::serve::{LoggedFault, StreamFault};
+pub use http_streams::{Ask, Counted, Fed, Kept, Plan, Sink, Source};
+
+// of lower layers
+pub use http_replies::{
+    Answer, Event, EventReply, Found, Input, Operation, Put, Refusal, Reply, Site, SiteFault,
+    SiteName, Stamp, Taken, World, answer_line, error_line, simulate,
+};
 
 /// An upper bound of the bytes of a line without method and target.
 pub const MOST_UNREAD_LINE: usize = 64;

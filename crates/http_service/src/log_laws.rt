@@ -3,7 +3,7 @@ ghost use Rattle.std.specs.Prelude.{◌≡◌, ◌++◌, ℕ, List, Ok};
 ghost use Rattle.http.specs.declared.status.StatusCode.{StatusCode};
 ghost use Rattle.json_words.specs.Json.{json_of};
 ghost use Rattle.http_service.specs.Routes.{route_stated};
-ghost use Rattle.site_calls.specs.site_steps.Inputs.{Authorize};
+ghost use Rattle.http_replies.specs.site.Inputs.{Authorize};
 ghost use Rattle.http_service.specs.LogLines.{IsLogLine, decision_tail, head_text, log_line, text_of, unread_line};
 ghost use Rattle.http_service.specs.OneLine.{HasNoLineFeed, IsOneLine};
 

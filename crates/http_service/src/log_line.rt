@@ -7,7 +7,7 @@ ghost use Rattle.std.specs.Prelude.{◌≡◌, ◌≤◌, ◌+◌, ◌++◌, IfO
 ghost use Rattle.std.specs.Vec.{vec_capacity};
 ghost use Rattle.json_words.specs.Json.{json_of};
 ghost use Rattle.http_service.specs.Routes.{asked_by};
-ghost use Rattle.site_calls.specs.site_steps.Inputs.{input_of};
+ghost use Rattle.http_replies.specs.site.Inputs.{input_of};
 ghost use Rattle.http_service.specs.LogLines.{IsDecision, decision_tail, head_text, members_text};
 ghost use Rattle.http_service.specs.LogLines.{plain_tail, stamp_tail};
 ghost use Rattle.http_service.specs.LogLines.{status_text, tail_of, text_of, unread_line};
@@ -17,9 +17,9 @@ use crate::log_pieces::{append, append_number, head_of, members_of};
 use crate::route::Route;
 use crate::{MOST_STAMP, MOST_TAIL};
 use http::StatusCode;
+use http_replies::Input;
 use json_words::{Scratch, read_json_by};
 use plain::NoMemory;
-use site_calls::Input;
 use std::alloc::Global;
 
 /// Appends the beginning of the line of a request, and reserves memory for the rest of the line of a change.

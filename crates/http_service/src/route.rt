@@ -1,7 +1,7 @@
 //! What requests ask for.
 
 use http::StatusCode;
-use site_calls::Input;
+use http_replies::Input;
 
 /// What a request asks for.
 #[derive(Clone, Copy)]

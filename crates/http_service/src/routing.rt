@@ -1,15 +1,15 @@
 //! Finds what a request asks for by its method and its target.
 ghost use Rattle.std.specs.Prelude.{◌≡◌, [], IfOk, OnErr, IsTrue, bytes_eq};
 ghost use Rattle.percent_encoding.specs.Percent.{percent_decode};
-ghost use Rattle.site_calls.specs.site_steps.Inputs.{input_of};
+ghost use Rattle.http_replies.specs.site.Inputs.{input_of};
 ghost use Rattle.http_service.specs.Routes.{asked_by, has_id, only, plain_route, policy_route, route_stated};
 
 use crate::path::{path_of, segment_of};
 use crate::route::Route;
 use http::{Method, StatusCode};
+use http_replies::Input;
 use percent_encoding::percent_decode;
 use plain::NoMemory;
-use site_calls::Input;
 
 /// Returns whether `bytes` are the method `method`.
 fn is_method(bytes: &[u8], method: &Method) -> bool

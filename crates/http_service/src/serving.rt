@@ -8,12 +8,12 @@ ghost use Rattle.http_service.specs.Serving.{IsServed};
 
 use crate::MOST_UNREAD_LINE;
 use crate::site_service::{LoggedService, SiteService};
+use http_replies::{Site, runs_leave_what_they_took};
 use http_streams::serve::{
     LoggedFault, StreamFault, serve as serve_stream, serve_logged as serve_stream_logged,
 };
 use http_streams::{Sink, Source};
 use json_words::Scratch;
-use site_calls::{Site, runs_leave_what_they_took};
 use std::alloc::Global;
 
 /// Answers the requests of a stream at a borrowed site.

@@ -6,9 +6,9 @@ ghost use Rattle.http_service.specs.LogLines.{unread_line};
 use crate::handlers::{answer, answer_with_line};
 use crate::log_line::put_unread_line;
 use http::StatusCode;
+use http_replies::Site;
 use http_streams::service::{Answers, Service};
 use json_words::Scratch;
-use site_calls::Site;
 use std::alloc::Global;
 use std::marker::Model;
 
@@ -34,8 +34,8 @@ pub struct ViewedSite {
 }
 
 impl Model for ViewedSite {
-    ghost use Rattle.site_calls.specs.site_steps.SiteViews.{SiteView};
-    ghost use Rattle.site_calls.specs.site_steps.contracts.site.Site as row;
+    ghost use Rattle.http_replies.specs.site.SiteViews.{SiteView};
+    ghost use Rattle.http_replies.specs.site.contracts.site.Site as row;
 
     ghost Value = { SiteView };
 

@@ -9,9 +9,10 @@ ghost use Rattle.http_streams.specs.Reads.{EndsByOneRead};
 
 use crate::buffers::{FillFault, drop_front, read_more, room_for_heads, room_for_reads};
 use crate::devices::{Sink, Source, write_all};
+use crate::parts::Ask;
 use crate::reply_cut::{ReplyCut, ReplyParts, cut_reply};
 use crate::request::request_text;
-use crate::{Ask, MAX_HEAD, MAX_READ};
+use crate::{MAX_HEAD, MAX_READ};
 use httparse::spans::HeaderSpan;
 use std::alloc::{AllocError, Global};
 use thiserror::Error;

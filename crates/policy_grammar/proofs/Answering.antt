@@ -5,30 +5,30 @@ use Rattle.std.proofs.Common.{Ok, Err, refl, subst, inl, inr, not-le_of_lt}
 use Rattle.std.specs.List.{AllByRecursion, AllZip, enumerate_from}
 use Rattle.std.proofs.lemmas.List.Elements.{All-from_recursion, recursion_from_All}
 use Rattle.values.specs.declared.entity_uid.EntityUid.{EntityUid}
-use Rattle.grammar_desugaring.specs.grammar_tokens.declared.token.TokenKind.{TokenKind}
-use Rattle.grammar_desugaring.specs.grammar_tokens.declared.token.TokenKind.TheVariants as k
-use Rattle.grammar_desugaring.specs.grammar_tokens.declared.token.Token.{Token}
-use Rattle.grammar_desugaring.specs.grammar_tokens.Lexing.{IsLexed, IsBadAt, IsToken, spelling_of, EachIsLexedOrBad}
-use Rattle.grammar_desugaring.specs.grammar_tokens.Lexing.{EachIsSpelled}
-use Rattle.grammar_desugaring.specs.grammar_tokens.Strings.{IsStringOf, HasValue}
-use Rattle.grammar_desugaring.specs.grammar_tokens.declared.fault.SyntaxFault.{SyntaxFault}
-use Rattle.grammar_desugaring.specs.grammar_tokens.declared.fault.SyntaxFault.TheVariants as syntax
-use Rattle.grammar_desugaring.specs.grammar_tokens.declared.tree.UidTree.{UidTree}
-use Rattle.grammar_desugaring.specs.grammar_tokens.Kinds.{only}
-use Rattle.grammar_desugaring.specs.grammar_tokens.Lang.{Lang, at_any}
-use Rattle.grammar_desugaring.specs.grammar_tokens.ParseResults.{IsRefusedWithin, IsAnswerWithin, HasOneAnswer, HasOneAnswerWithin}
-use Rattle.grammar_policies.specs.grammar_expressions.Expressions.{nesting_limit}
-use Rattle.grammar_policies.specs.Grammar as grammar
-use Rattle.grammar_policies.specs.Grammar.{effects}
-use Rattle.grammar_policies.specs.WellFormed.{WellFormedToken, WellFormedUid, WellFormedValue}
-use Rattle.grammar_policies.specs.WellFormed.{WellFormedAnnotation, WellFormedPart, WellFormedAction}
-use Rattle.grammar_policies.specs.WellFormed.{WellFormedPolicy, IsMadeOfTokens}
-use Rattle.grammar_policies.specs.declared.tree.Annotation.{Annotation}
-use Rattle.grammar_policies.specs.declared.tree.PartTree.{PartTree}
-use Rattle.grammar_policies.specs.declared.tree.PartTree.TheVariants as part
-use Rattle.grammar_policies.specs.declared.tree.ActionTree.{ActionTree}
-use Rattle.grammar_policies.specs.declared.tree.ActionTree.TheVariants as action
-use Rattle.grammar_policies.specs.declared.tree.PolicyTree.{PolicyTree}
+use Rattle.grammar_desugaring.specs.grammar_syntax.declared.token.TokenKind.{TokenKind}
+use Rattle.grammar_desugaring.specs.grammar_syntax.declared.token.TokenKind.TheVariants as k
+use Rattle.grammar_desugaring.specs.grammar_syntax.declared.token.Token.{Token}
+use Rattle.grammar_desugaring.specs.grammar_syntax.Lexing.{IsLexed, IsBadAt, IsToken, spelling_of, EachIsLexedOrBad}
+use Rattle.grammar_desugaring.specs.grammar_syntax.Lexing.{EachIsSpelled}
+use Rattle.grammar_desugaring.specs.grammar_syntax.Strings.{IsStringOf, HasValue}
+use Rattle.grammar_desugaring.specs.grammar_syntax.declared.fault.SyntaxFault.{SyntaxFault}
+use Rattle.grammar_desugaring.specs.grammar_syntax.declared.fault.SyntaxFault.TheVariants as syntax
+use Rattle.grammar_desugaring.specs.grammar_syntax.declared.name_trees.UidTree.{UidTree}
+use Rattle.grammar_desugaring.specs.grammar_syntax.Kinds.{only}
+use Rattle.grammar_desugaring.specs.grammar_syntax.Lang.{Lang, at_any}
+use Rattle.grammar_desugaring.specs.grammar_syntax.ParseResults.{IsRefusedWithin, IsAnswerWithin, HasOneAnswer, HasOneAnswerWithin}
+use Rattle.grammar_parsing.specs.Expressions.{nesting_limit}
+use Rattle.grammar_parsing.specs.Grammar as grammar
+use Rattle.grammar_parsing.specs.Grammar.{effects}
+use Rattle.grammar_parsing.specs.WellFormed.{WellFormedToken, WellFormedUid, WellFormedValue}
+use Rattle.grammar_parsing.specs.WellFormed.{WellFormedAnnotation, WellFormedPart, WellFormedAction}
+use Rattle.grammar_parsing.specs.WellFormed.{WellFormedPolicy, IsMadeOfTokens}
+use Rattle.grammar_parsing.specs.declared.tree.Annotation.{Annotation}
+use Rattle.grammar_parsing.specs.declared.tree.PartTree.{PartTree}
+use Rattle.grammar_parsing.specs.declared.tree.PartTree.TheVariants as part
+use Rattle.grammar_parsing.specs.declared.tree.ActionTree.{ActionTree}
+use Rattle.grammar_parsing.specs.declared.tree.ActionTree.TheVariants as action
+use Rattle.grammar_parsing.specs.declared.tree.PolicyTree.{PolicyTree}
 use Rattle.grammar_desugaring.specs.Meaning as meaning
 use Rattle.grammar_desugaring.specs.Meaning.{path_name}
 use Rattle.grammar_desugaring.specs.declared.fault.DesugarFault.{DesugarFault}

@@ -3,16 +3,16 @@ use Rattle.std.proofs.Common.{◌≡◌, ℕ, List, [], ◌∷◌, Option, Some,
 use Rattle.std.specs.List.{AllZip, enumerate_from}
 use Rattle.values.specs.declared.entity_uid.EntityUid.{EntityUid}
 use Rattle.grammar_core.specs.declared.expr.Expr.{Expr}
-use Rattle.grammar_desugaring.specs.grammar_tokens.declared.token.Token.{Token}
-use Rattle.grammar_desugaring.specs.grammar_tokens.Lexing.{spelling_of}
-use Rattle.grammar_desugaring.specs.grammar_tokens.Strings.{OneValue}
-use Rattle.grammar_desugaring.specs.grammar_tokens.declared.tree.UidTree.{UidTree}
-use Rattle.grammar_policies.specs.declared.tree.Annotation.{Annotation}
-use Rattle.grammar_policies.specs.declared.tree.PartTree.{PartTree}
-use Rattle.grammar_policies.specs.declared.tree.PartTree.TheVariants as part
-use Rattle.grammar_policies.specs.declared.tree.ActionTree.{ActionTree}
-use Rattle.grammar_policies.specs.declared.tree.ActionTree.TheVariants as action
-use Rattle.grammar_policies.specs.declared.tree.PolicyTree.{PolicyTree}
+use Rattle.grammar_desugaring.specs.grammar_syntax.declared.token.Token.{Token}
+use Rattle.grammar_desugaring.specs.grammar_syntax.Lexing.{spelling_of}
+use Rattle.grammar_desugaring.specs.grammar_syntax.Strings.{OneValue}
+use Rattle.grammar_desugaring.specs.grammar_syntax.declared.name_trees.UidTree.{UidTree}
+use Rattle.grammar_parsing.specs.declared.tree.Annotation.{Annotation}
+use Rattle.grammar_parsing.specs.declared.tree.PartTree.{PartTree}
+use Rattle.grammar_parsing.specs.declared.tree.PartTree.TheVariants as part
+use Rattle.grammar_parsing.specs.declared.tree.ActionTree.{ActionTree}
+use Rattle.grammar_parsing.specs.declared.tree.ActionTree.TheVariants as action
+use Rattle.grammar_parsing.specs.declared.tree.PolicyTree.{PolicyTree}
 use Rattle.policy_grammar.specs.declared.policy.Effect.{Effect}
 use Rattle.policy_grammar.specs.declared.policy.Effect.TheVariants.{Permit, Forbid}
 use Rattle.policy_grammar.specs.declared.policy.EntityScope.{EntityScope}

@@ -10,8 +10,8 @@ use Rattle.std.proofs.lemmas.Fmt.{decimal_injective}
 use Rattle.grammar_desugaring.specs.ReportedErrors.{least}
 use Rattle.grammar_desugaring.specs.Repeats.{NameAt, IsRepeatedAt, repeat_faults, RepeatsAreReported}
 use Rattle.grammar_desugaring.proofs.AgainFront.{Later, again-there, again-here, again-front, again-none}
-use Rattle.grammar_policies.specs.declared.tree.Annotation.{Annotation}
-use Rattle.grammar_policies.specs.declared.tree.PolicyTree.{PolicyTree}
+use Rattle.grammar_parsing.specs.declared.tree.Annotation.{Annotation}
+use Rattle.grammar_parsing.specs.declared.tree.PolicyTree.{PolicyTree}
 use Rattle.policy_grammar.specs.CoreOf.{is_id, IsNameBy, IsNameOf, AreNamesOf}
 use Rattle.policy_grammar.specs.Repeats.{policy_names, start_of}
 use Rattle.policy_grammar.specs.inner.Parts.{has_id, has_index_prefix, some_index_name, kept, names_to_compare}

@@ -6,9 +6,9 @@ use Rattle.std.specs.List.{AllByRecursion, flat_map}
 use Rattle.grammar_core.specs.declared.leaf.Literal.TheVariants as literal
 use Rattle.grammar_core.specs.declared.expr.Expr.{Expr}
 use Rattle.grammar_core.specs.declared.expr.Expr.TheVariants as core
-use Rattle.grammar_policies.specs.declared.tree.Condition.{Condition}
-use Rattle.grammar_policies.specs.declared.tree.PolicyTree.{PolicyTree}
-use Rattle.grammar_policies.specs.WellFormed.{WellFormedCondition}
+use Rattle.grammar_parsing.specs.declared.tree.Condition.{Condition}
+use Rattle.grammar_parsing.specs.declared.tree.PolicyTree.{PolicyTree}
+use Rattle.grammar_parsing.specs.WellFormed.{WellFormedCondition}
 use Rattle.grammar_desugaring.specs.declared.measure.Measure.{Measure}
 use Rattle.grammar_desugaring.specs.Faults.{faults_of}
 use Rattle.grammar_desugaring.specs.TreeMeasures.{of}

@@ -13,6 +13,17 @@ pub mod Readings
 pub mod Differing
 pub mod Answering
 mod Unescaped
--- crates below, passed on to those above
+pub mod Cutting
+pub mod Splitting
+pub mod Alone
+pub mod Endless
+pub mod Counting
+pub mod Alike
+pub mod Deriving
+mod Kin
+mod Forms
+mod FileReadings
+mod Scopes
+mod FileTexts
+-- of this layer
 pub use Rattle.grammar_desugaring.proofs as of_grammar_desugaring
-pub use Rattle.grammar_desugaring.proofs.of_grammar_tokens

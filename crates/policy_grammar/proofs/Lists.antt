@@ -2,10 +2,10 @@
 use Rattle.std.proofs.Common.{◌≡◌, ℕ, zero, suc, ◌+◌, ◌<◌, List, [], ◌∷◌, ◌++◌, length, take, drop, get_or, refl, sym}
 use Rattle.std.proofs.Common.{◌∙◌, ap, subst, arith, add-one, Bool, true, false, if◌then◌else◌, find, Some, length-take}
 use Rattle.std.proofs.Math.Seq.{drop-cons}
-use Rattle.grammar_desugaring.specs.grammar_tokens.declared.token.TokenKind.{TokenKind}
-use Rattle.grammar_desugaring.specs.grammar_tokens.declared.token.TokenKind.TheVariants as k
-use Rattle.grammar_desugaring.specs.grammar_tokens.Kinds.{only, same_kind}
-use Rattle.grammar_policies.specs.declared.tree.PolicyTree.{PolicyTree}
+use Rattle.grammar_desugaring.specs.grammar_syntax.declared.token.TokenKind.{TokenKind}
+use Rattle.grammar_desugaring.specs.grammar_syntax.declared.token.TokenKind.TheVariants as k
+use Rattle.grammar_desugaring.specs.grammar_syntax.Kinds.{only, same_kind}
+use Rattle.grammar_parsing.specs.declared.tree.PolicyTree.{PolicyTree}
 use Rattle.policy_grammar.specs.CoreOf.{IsNameOf, AreNamesOf}
 use Rattle.std.specs.List.{AllZip, AllByRecursion, enumerate_from, zip}
 use Rattle.std.proofs.lemmas.List.{take_more}

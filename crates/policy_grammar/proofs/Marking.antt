@@ -1,9 +1,9 @@
 -- Marks that a loop makes, one more at each turn.
 use Rattle.std.proofs.Common.{◌≡◌, ℕ, ◌+◌, ◌<◌, List, [], ◌∷◌, ◌++◌, length, take, get_or, map, sym, ◌∙◌, ap}
 use Rattle.std.proofs.lemmas.List.{take_more, map-append}
-use Rattle.grammar_desugaring.specs.grammar_tokens.Lexing.{spelling_of}
-use Rattle.grammar_policies.specs.declared.tree.Annotation.{Annotation}
-use Rattle.grammar_desugaring.specs.grammar_trees.declared.repeats.NameAt as code
+use Rattle.grammar_desugaring.specs.grammar_syntax.Lexing.{spelling_of}
+use Rattle.grammar_parsing.specs.declared.tree.Annotation.{Annotation}
+use Rattle.grammar_desugaring.specs.grammar_syntax.declared.repeats.NameAt as code
 use Rattle.grammar_desugaring.specs.Repeats.{NameAt, abstract_names}
 use Rattle.policy_grammar.specs.Annotations.{key_at}
 

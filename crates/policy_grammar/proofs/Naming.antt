@@ -5,7 +5,7 @@ use Rattle.std.specs.List.{AllByRecursion}
 use Rattle.std.specs.declared.alloc.Global.{Global}
 use Rattle.std.proofs.lemmas.List.{map-append, length-map}
 use Rattle.std.proofs.lemmas.Slice.Zip.{AllZip-long}
-use Rattle.grammar_policies.specs.declared.tree.PolicyTree.{PolicyTree}
+use Rattle.grammar_parsing.specs.declared.tree.PolicyTree.{PolicyTree}
 use Rattle.policy_grammar.specs.declared.policy.Policy.{Policy}
 use Rattle.policy_grammar.specs.CoreOf.{IsCoreOf, AreCoresOf}
 use Rattle.policy_grammar.proofs.Lists.{all_zip-more}

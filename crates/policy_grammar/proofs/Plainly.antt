@@ -10,20 +10,20 @@ use Rattle.plain.specs.Words.{is_letter, is_digit, is_word_byte, AllAre, run, Is
 use Rattle.plain.specs.Words.{IsPath}
 use Rattle.plain.proofs.Runs.{run_most}
 use Rattle.values.specs.declared.entity_uid.EntityUid.{EntityUid}
-use Rattle.grammar_desugaring.specs.grammar_tokens.declared.token.TokenKind.TheVariants as k
-use Rattle.grammar_desugaring.specs.grammar_tokens.declared.token.Token.{Token}
-use Rattle.grammar_desugaring.specs.grammar_tokens.declared.piece.Piece.{Piece}
-use Rattle.grammar_desugaring.specs.grammar_tokens.declared.piece.Piece.TheVariants.{Byte}
-use Rattle.grammar_desugaring.specs.grammar_tokens.Lexing.{kind_of_word, IsBody, done, itself, has_star, word, quoted, pair}
-use Rattle.grammar_desugaring.specs.grammar_tokens.Lexing.{IsLongest, Lex, finish, token, spelling_of}
-use Rattle.grammar_desugaring.specs.grammar_tokens.Strings.{bytes_of, IsStringOf}
-use Rattle.grammar_desugaring.proofs.of_grammar_tokens.FirstByte.{Class, others, class, OfClass, class_of_letter}
-use Rattle.grammar_desugaring.proofs.of_grammar_tokens.FrontTells.{begins}
-use Rattle.grammar_desugaring.proofs.of_grammar_tokens.WordKinds.{idents_by_kind}
-use Rattle.grammar_desugaring.proofs.of_grammar_tokens.Parts.{past}
-use Rattle.grammar_desugaring.specs.grammar_tokens.Kinds.{same_kind, only}
-use Rattle.grammar_desugaring.specs.grammar_tokens.Lang.{of, one, ◌>>◌, many}
-use Rattle.grammar_desugaring.specs.grammar_tokens.Grammar.{identifiers}
+use Rattle.grammar_desugaring.specs.grammar_syntax.declared.token.TokenKind.TheVariants as k
+use Rattle.grammar_desugaring.specs.grammar_syntax.declared.token.Token.{Token}
+use Rattle.grammar_desugaring.specs.grammar_syntax.declared.piece.Piece.{Piece}
+use Rattle.grammar_desugaring.specs.grammar_syntax.declared.piece.Piece.TheVariants.{Byte}
+use Rattle.grammar_desugaring.specs.grammar_syntax.Lexing.{kind_of_word, IsBody, done, itself, has_star, word, quoted, pair}
+use Rattle.grammar_desugaring.specs.grammar_syntax.Lexing.{IsLongest, Lex, finish, token, spelling_of}
+use Rattle.grammar_desugaring.specs.grammar_syntax.Strings.{bytes_of, IsStringOf}
+use Rattle.grammar_parsing.proofs.of_grammar_syntax.FirstByte.{Class, others, class, OfClass, class_of_letter}
+use Rattle.grammar_parsing.proofs.of_grammar_syntax.FrontTells.{begins}
+use Rattle.grammar_parsing.proofs.of_grammar_syntax.WordKinds.{idents_by_kind}
+use Rattle.grammar_parsing.proofs.of_grammar_syntax.Parts.{past}
+use Rattle.grammar_desugaring.specs.grammar_syntax.Kinds.{same_kind, only}
+use Rattle.grammar_desugaring.specs.grammar_syntax.Lang.{of, one, ◌>>◌, many}
+use Rattle.grammar_desugaring.specs.grammar_syntax.Grammar.{identifiers}
 use Rattle.grammar_desugaring.specs.Strings.{ValueIsValue}
 use Rattle.policy_grammar.specs.Limits.{most_policy_bytes}
 use Rattle.policy_grammar.specs.PolicyText.{IsUidText}

@@ -2,16 +2,16 @@
 use Rattle.std.proofs.Common.{◌≡◌, ◌⊎◌, ℕ, ◌≤◌, ◌<◌, List, [], length, Some, None, All, Result, Ok, Err, refl, sym, ◌∙◌}
 use Rattle.std.proofs.Common.{ap, subst, inl, inr, arith}
 use Rattle.std.specs.List.{AllByRecursion}
-use Rattle.grammar_desugaring.specs.grammar_tokens.declared.token.Token.{Token}
-use Rattle.grammar_desugaring.specs.grammar_tokens.Lexing.{IsLexed, IsBadAt, OneLexing, BadIsNotLexed, OneBadPlace}
-use Rattle.grammar_desugaring.specs.grammar_tokens.Strings.{OneValue}
-use Rattle.grammar_policies.specs.declared.tree.PolicyTree.{PolicyTree}
-use Rattle.grammar_desugaring.specs.grammar_tokens.declared.fault.SyntaxFault.{SyntaxFault}
-use Rattle.grammar_desugaring.specs.grammar_tokens.declared.fault.SyntaxFault.TheVariants as syntax
-use Rattle.grammar_desugaring.specs.grammar_tokens.Lang.{Lang, at_any}
-use Rattle.grammar_policies.specs.grammar_expressions.Expressions.{nesting_limit}
-use Rattle.grammar_policies.specs.Grammar as grammar
-use Rattle.grammar_desugaring.specs.grammar_tokens.ParseResults.{IsRefusedWithin, HasOneTree, HasOneAnswer, HasOneAnswerWithin}
+use Rattle.grammar_desugaring.specs.grammar_syntax.declared.token.Token.{Token}
+use Rattle.grammar_desugaring.specs.grammar_syntax.Lexing.{IsLexed, IsBadAt, OneLexing, BadIsNotLexed, OneBadPlace}
+use Rattle.grammar_desugaring.specs.grammar_syntax.Strings.{OneValue}
+use Rattle.grammar_parsing.specs.declared.tree.PolicyTree.{PolicyTree}
+use Rattle.grammar_desugaring.specs.grammar_syntax.declared.fault.SyntaxFault.{SyntaxFault}
+use Rattle.grammar_desugaring.specs.grammar_syntax.declared.fault.SyntaxFault.TheVariants as syntax
+use Rattle.grammar_desugaring.specs.grammar_syntax.Lang.{Lang, at_any}
+use Rattle.grammar_parsing.specs.Expressions.{nesting_limit}
+use Rattle.grammar_parsing.specs.Grammar as grammar
+use Rattle.grammar_desugaring.specs.grammar_syntax.ParseResults.{IsRefusedWithin, HasOneTree, HasOneAnswer, HasOneAnswerWithin}
 use Rattle.policy_grammar.specs.declared.policy.Policy.{Policy}
 use Rattle.policy_grammar.specs.declared.fault.ReadFault.{ReadFault}
 use Rattle.policy_grammar.specs.declared.fault.ReadFault.TheVariants as fault

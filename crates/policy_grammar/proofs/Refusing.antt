@@ -4,9 +4,9 @@ use Rattle.std.proofs.Common.{inr}
 use Rattle.std.specs.List.{enumerate_from}
 use Rattle.std.proofs.lemmas.List.FromFn.{length-enumerate_from}
 use Rattle.std.proofs.lemmas.Slice.Zip.{AllZip-long}
-use Rattle.grammar_policies.specs.grammar_expressions.Expressions.{nesting_limit}
-use Rattle.grammar_policies.specs.declared.tree.PolicyTree.{PolicyTree}
-use Rattle.grammar_policies.specs.Grammar as grammar
+use Rattle.grammar_parsing.specs.Expressions.{nesting_limit}
+use Rattle.grammar_parsing.specs.declared.tree.PolicyTree.{PolicyTree}
+use Rattle.grammar_parsing.specs.Grammar as grammar
 use Rattle.policy_grammar.specs.declared.policy.Policy.{Policy}
 use Rattle.policy_grammar.specs.declared.fault.ReadFault.{ReadFault}
 use Rattle.policy_grammar.specs.declared.fault.ReadFault.TheVariants as fault

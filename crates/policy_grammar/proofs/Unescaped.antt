@@ -2,13 +2,13 @@
 use Rattle.std.proofs.Common.{◌≡◌, ℕ, Bool, false, List, [], ◌∷◌, ◌++◌, refl, ◌∙◌, ap, nat_eq, inl, inr}
 use Rattle.std.specs.List.{list_any}
 use Rattle.std.proofs.lemmas.Bool.{or_parts, cases_Bool}
-use Rattle.grammar_desugaring.specs.grammar_tokens.declared.piece.Piece.{Piece}
-use Rattle.grammar_desugaring.specs.grammar_tokens.declared.token.TokenKind.TheVariants as k
-use Rattle.grammar_desugaring.specs.grammar_tokens.Lexing.{IsBody, done, itself, escape, has_star, kind_of_pieces, IsToken}
-use Rattle.grammar_desugaring.specs.grammar_tokens.Strings.{bytes_of, IsStringOf}
-use Rattle.grammar_desugaring.proofs.of_grammar_tokens.Between.{body_in}
-use Rattle.grammar_desugaring.proofs.of_grammar_tokens.Bodies.{slash}
-use Rattle.grammar_desugaring.proofs.of_grammar_tokens.Parts.{not_both}
+use Rattle.grammar_desugaring.specs.grammar_syntax.declared.piece.Piece.{Piece}
+use Rattle.grammar_desugaring.specs.grammar_syntax.declared.token.TokenKind.TheVariants as k
+use Rattle.grammar_desugaring.specs.grammar_syntax.Lexing.{IsBody, done, itself, escape, has_star, kind_of_pieces, IsToken}
+use Rattle.grammar_desugaring.specs.grammar_syntax.Strings.{bytes_of, IsStringOf}
+use Rattle.grammar_parsing.proofs.of_grammar_syntax.Between.{body_in}
+use Rattle.grammar_parsing.proofs.of_grammar_syntax.Bodies.{slash}
+use Rattle.grammar_parsing.proofs.of_grammar_syntax.Parts.{not_both}
 
 abbrev pub has_slash : List ℕ → Bool
 has_slash = list_any (λ b. nat_eq b 92)

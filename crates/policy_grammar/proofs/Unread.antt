@@ -1,10 +1,10 @@
 -- From the refusal of tokens to the refusal of their text.
 use Rattle.std.proofs.Common.{◌≡◌, ℕ, List, ◌⊎◌, refl, ap, inl, inr}
-use Rattle.grammar_desugaring.specs.grammar_tokens.declared.token.Token.{Token}
-use Rattle.grammar_desugaring.specs.grammar_tokens.declared.fault.SyntaxFault.{SyntaxFault}
-use Rattle.grammar_desugaring.specs.grammar_tokens.declared.fault.SyntaxFault.TheVariants as syntax
-use Rattle.grammar_desugaring.specs.grammar_tokens.Lang.{Lang}
-use Rattle.grammar_desugaring.specs.grammar_tokens.ParseResults.{IsRefusedWithin}
+use Rattle.grammar_desugaring.specs.grammar_syntax.declared.token.Token.{Token}
+use Rattle.grammar_desugaring.specs.grammar_syntax.declared.fault.SyntaxFault.{SyntaxFault}
+use Rattle.grammar_desugaring.specs.grammar_syntax.declared.fault.SyntaxFault.TheVariants as syntax
+use Rattle.grammar_desugaring.specs.grammar_syntax.Lang.{Lang}
+use Rattle.grammar_desugaring.specs.grammar_syntax.ParseResults.{IsRefusedWithin}
 use Rattle.policy_grammar.specs.declared.fault.ReadFault.TheVariants as fault
 use Rattle.plain.specs.AllocationErrors.{OrNoMemory}
 use Rattle.policy_grammar.specs.Texts.{IsUnread}

@@ -2,9 +2,9 @@
 -- policy's tokens are in.
 -- Source: Cedar reference guide 4.0, "Annotations": a key occurs once in a policy.
 use Rattle.std.specs.Prelude.{ℕ, List, map}
-use Rattle.grammar_desugaring.specs.grammar_tokens.Lexing.{spelling_of}
-use Rattle.grammar_policies.specs.declared.tree.Annotation.{Annotation}
-use Rattle.grammar_policies.specs.declared.tree.PolicyTree.{PolicyTree}
+use Rattle.grammar_desugaring.specs.grammar_syntax.Lexing.{spelling_of}
+use Rattle.grammar_parsing.specs.declared.tree.Annotation.{Annotation}
+use Rattle.grammar_parsing.specs.declared.tree.PolicyTree.{PolicyTree}
 use Rattle.grammar_desugaring.specs.Repeats.{NameAt}
 
 -- `key_at text annotation` is the key of `annotation`, with the offset of its `@`.

@@ -9,9 +9,9 @@ use Rattle.std.specs.List.{flat_map}
 use Rattle.grammar_core.specs.declared.operator.Unary.TheVariants.{Not}
 use Rattle.grammar_core.specs.declared.expr.Expr.{Expr}
 use Rattle.grammar_core.specs.declared.expr.Expr.TheVariants as core
-use Rattle.grammar_policies.specs.declared.tree.Condition.{Condition}
-use Rattle.grammar_policies.specs.declared.tree.ConditionWord.{ConditionWord}
-use Rattle.grammar_policies.specs.declared.tree.ConditionWord.TheVariants as word
+use Rattle.grammar_parsing.specs.declared.tree.Condition.{Condition}
+use Rattle.grammar_parsing.specs.declared.tree.ConditionWord.{ConditionWord}
+use Rattle.grammar_parsing.specs.declared.tree.ConditionWord.TheVariants as word
 use Rattle.grammar_desugaring.specs.declared.fault.DesugarFault.{DesugarFault}
 use Rattle.grammar_desugaring.specs.Core.{core_of}
 use Rattle.grammar_desugaring.specs.Faults.{faults_of}

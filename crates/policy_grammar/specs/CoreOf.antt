@@ -8,19 +8,19 @@ use Rattle.std.specs.List.{AllZip, enumerate_from}
 use Rattle.std.specs.Fmt.{decimal}
 use Rattle.std.specs.Str.{bytes_eq}
 use Rattle.values.specs.declared.entity_uid.EntityUid.{EntityUid}
-use Rattle.grammar_desugaring.specs.grammar_tokens.declared.token.TokenKind.{TokenKind}
-use Rattle.grammar_desugaring.specs.grammar_tokens.declared.token.TokenKind.TheVariants as k
-use Rattle.grammar_desugaring.specs.grammar_tokens.declared.token.Token.{Token}
-use Rattle.grammar_desugaring.specs.grammar_tokens.Lexing.{spelling_of}
-use Rattle.grammar_desugaring.specs.grammar_tokens.Strings.{IsStringOf}
-use Rattle.grammar_desugaring.specs.grammar_tokens.declared.tree.UidTree.{UidTree}
+use Rattle.grammar_desugaring.specs.grammar_syntax.declared.token.TokenKind.{TokenKind}
+use Rattle.grammar_desugaring.specs.grammar_syntax.declared.token.TokenKind.TheVariants as k
+use Rattle.grammar_desugaring.specs.grammar_syntax.declared.token.Token.{Token}
+use Rattle.grammar_desugaring.specs.grammar_syntax.Lexing.{spelling_of}
+use Rattle.grammar_desugaring.specs.grammar_syntax.Strings.{IsStringOf}
+use Rattle.grammar_desugaring.specs.grammar_syntax.declared.name_trees.UidTree.{UidTree}
 use Rattle.grammar_desugaring.specs.Meaning.{path_name, uid_of}
-use Rattle.grammar_policies.specs.declared.tree.Annotation.{Annotation}
-use Rattle.grammar_policies.specs.declared.tree.PartTree.{PartTree}
-use Rattle.grammar_policies.specs.declared.tree.PartTree.TheVariants as part
-use Rattle.grammar_policies.specs.declared.tree.ActionTree.{ActionTree}
-use Rattle.grammar_policies.specs.declared.tree.ActionTree.TheVariants as action
-use Rattle.grammar_policies.specs.declared.tree.PolicyTree.{PolicyTree}
+use Rattle.grammar_parsing.specs.declared.tree.Annotation.{Annotation}
+use Rattle.grammar_parsing.specs.declared.tree.PartTree.{PartTree}
+use Rattle.grammar_parsing.specs.declared.tree.PartTree.TheVariants as part
+use Rattle.grammar_parsing.specs.declared.tree.ActionTree.{ActionTree}
+use Rattle.grammar_parsing.specs.declared.tree.ActionTree.TheVariants as action
+use Rattle.grammar_parsing.specs.declared.tree.PolicyTree.{PolicyTree}
 use Rattle.policy_grammar.specs.declared.policy.Effect.{Effect}
 use Rattle.policy_grammar.specs.declared.policy.Effect.TheVariants.{Permit, Forbid}
 use Rattle.policy_grammar.specs.declared.policy.EntityScope.{EntityScope}

@@ -1,8 +1,8 @@
 -- Defines the codes and byte offsets of parsing errors.
 -- Rules of this product: the codes, and the offset 0 of `TooLong` and `BadId`.
 use Rattle.std.specs.Prelude.{ℕ, Option, Some, None}
-use Rattle.grammar_desugaring.specs.grammar_tokens.declared.lex_fault.LexFault.{LexFault}
-use Rattle.grammar_desugaring.specs.grammar_tokens.declared.lex_fault.LexFault.TheVariants as lex
+use Rattle.grammar_desugaring.specs.grammar_syntax.declared.lex_fault.LexFault.{LexFault}
+use Rattle.grammar_desugaring.specs.grammar_syntax.declared.lex_fault.LexFault.TheVariants as lex
 use Rattle.grammar_desugaring.specs.declared.fault.DesugarFault.{DesugarFault}
 use Rattle.grammar_desugaring.specs.declared.fault.DesugarFault.TheVariants as desugar
 use Rattle.policy_grammar.specs.declared.fault.ReadFault.{ReadFault}

@@ -3,12 +3,12 @@
 -- Source: Cedar reference guide 4.0, "Grammar specification for Cedar policy syntax". The limits, the errors and
 -- their order are rules of this product.
 use Rattle.std.specs.Prelude.{◌≡◌, ℕ, ◌≤◌, ◌<◌, List, length, Option, Some, None, slice_get}
-use Rattle.grammar_desugaring.specs.grammar_tokens.declared.token.Token.{Token}
-use Rattle.grammar_desugaring.specs.grammar_tokens.Lexing.{IsLexed, IsBadAt}
-use Rattle.grammar_desugaring.specs.grammar_tokens.declared.fault.SyntaxFault.{SyntaxFault}
-use Rattle.grammar_desugaring.specs.grammar_tokens.declared.fault.SyntaxFault.TheVariants as syntax
-use Rattle.grammar_desugaring.specs.grammar_tokens.Lang.{Lang}
-use Rattle.grammar_desugaring.specs.grammar_tokens.ParseResults.{IsRefusedWithin}
+use Rattle.grammar_desugaring.specs.grammar_syntax.declared.token.Token.{Token}
+use Rattle.grammar_desugaring.specs.grammar_syntax.Lexing.{IsLexed, IsBadAt}
+use Rattle.grammar_desugaring.specs.grammar_syntax.declared.fault.SyntaxFault.{SyntaxFault}
+use Rattle.grammar_desugaring.specs.grammar_syntax.declared.fault.SyntaxFault.TheVariants as syntax
+use Rattle.grammar_desugaring.specs.grammar_syntax.Lang.{Lang}
+use Rattle.grammar_desugaring.specs.grammar_syntax.ParseResults.{IsRefusedWithin}
 use Rattle.policy_grammar.specs.declared.fault.ReadFault.{ReadFault}
 use Rattle.policy_grammar.specs.declared.fault.ReadFault.TheVariants as fault
 

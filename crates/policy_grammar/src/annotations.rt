@@ -1,13 +1,13 @@
 //! The errors of annotations that repeat an earlier key.
 ghost use Rattle.std.specs.Prelude.{◌≡◌, IfOk};
-ghost use Rattle.grammar_policies.specs.WellFormed.{WellFormedPolicy};
+ghost use Rattle.grammar_parsing.specs.WellFormed.{WellFormedPolicy};
 ghost use Rattle.grammar_desugaring.specs.ReportedErrors.{least};
 ghost use Rattle.grammar_desugaring.specs.Repeats.{repeat_faults, abstract_names};
 ghost use Rattle.grammar_desugaring.specs.BuiltFrom.{IsBuiltFrom};
 ghost use Rattle.policy_grammar.specs.Annotations.{annotation_keys};
 
 use grammar_desugaring::{DesugarFault, NameAt, first_duplicate, spelling};
-use grammar_policies::PolicyTree;
+use grammar_parsing::PolicyTree;
 use plain::NoMemory;
 use std::alloc::Global;
 

@@ -5,7 +5,7 @@ ghost use Rattle.std.specs.List.{AllByRecursion};
 ghost use Rattle.grammar_core.specs.declared.expr.Expr.TheVariants as core;
 ghost use Rattle.grammar_desugaring.specs.Faults.{faults_of};
 ghost use Rattle.grammar_desugaring.specs.TreeMeasures.{of};
-ghost use Rattle.grammar_policies.specs.WellFormed.{WellFormedCondition};
+ghost use Rattle.grammar_parsing.specs.WellFormed.{WellFormedCondition};
 ghost use Rattle.policy_grammar.specs.Conditions.{condition_of, conditions_of, condition_faults};
 ghost use Rattle.grammar_desugaring.specs.BuiltFrom.{IsBuiltFrom};
 ghost use Rattle.policy_grammar.specs.inner.Parts.{AreSound};
@@ -13,7 +13,7 @@ ghost use Rattle.policy_grammar.specs.PolicyExpression.{truth};
 
 use grammar_core::{Expr, Literal, Unary};
 use grammar_desugaring::{Measure, build_expr, measure_expr, measures_add_up};
-use grammar_policies::{Condition, ConditionWord};
+use grammar_parsing::{Condition, ConditionWord};
 use plain::{NoMemory, Shared, pair_with};
 use std::alloc::Global;
 

@@ -1,8 +1,8 @@
 //! Translates the syntax tree of a policy that has no errors into the policy.
 ghost use Rattle.std.specs.Prelude.{◌≡◌, [], true, IfOk};
 ghost use Rattle.std.specs.List.{AllByRecursion};
-ghost use Rattle.grammar_policies.specs.Grammar.{effects};
-ghost use Rattle.grammar_policies.specs.WellFormed.{WellFormedUid, WellFormedPart, WellFormedAction, WellFormedPolicy};
+ghost use Rattle.grammar_parsing.specs.Grammar.{effects};
+ghost use Rattle.grammar_parsing.specs.WellFormed.{WellFormedUid, WellFormedPart, WellFormedAction, WellFormedPolicy};
 ghost use Rattle.policy_grammar.specs.Conditions.{condition_faults};
 ghost use Rattle.policy_grammar.specs.CoreOf.{IsUidOf, AreUidsOf, IsEntityScopeOf, IsActionScopeOf, effect_word};
 ghost use Rattle.policy_grammar.specs.CoreOf.{IsCoreOf};
@@ -12,7 +12,7 @@ use crate::conditions::conditions_like;
 use crate::known_names::{action_in, id_like, type_in, type_name_like, uid_in};
 use crate::policy::{ActionScope, Effect, EntityScope, Policy, Scope};
 use grammar_desugaring::{TokenKind, strings_are_read};
-use grammar_policies::{ActionTree, PartTree, PolicyTree, UidTree};
+use grammar_parsing::{ActionTree, PartTree, PolicyTree, UidTree};
 use plain::{Items, NoMemory, Shared, pair_with};
 use std::alloc::Global;
 use values::EntityUid;

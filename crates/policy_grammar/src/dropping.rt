@@ -1,7 +1,7 @@
 //! Functions that drop a value.
 ghost use Rattle.std.specs.Prelude.{◌≡◌};
 
-use grammar_policies::PolicyTree;
+use grammar_parsing::PolicyTree;
 
 /// Returns `made`, and drops the value from which `made` was made.
 ///

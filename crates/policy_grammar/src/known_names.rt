@@ -1,15 +1,15 @@
 //! Sharing of strings with known names, such as those of the previous policy.
 ghost use Rattle.std.specs.Prelude.{◌≡◌, IsTrue, IfOk, IfSome};
-ghost use Rattle.grammar_desugaring.specs.grammar_tokens.Lexing.{IsSpelledIn, spelling_of};
-ghost use Rattle.grammar_desugaring.specs.grammar_tokens.Strings.{IsStringOf};
-ghost use Rattle.grammar_desugaring.specs.grammar_tokens.declared.token.TokenKind.TheVariants as k;
-ghost use Rattle.grammar_policies.specs.WellFormed.{WellFormedPath};
+ghost use Rattle.grammar_desugaring.specs.grammar_syntax.Lexing.{IsSpelledIn, spelling_of};
+ghost use Rattle.grammar_desugaring.specs.grammar_syntax.Strings.{IsStringOf};
+ghost use Rattle.grammar_desugaring.specs.grammar_syntax.declared.token.TokenKind.TheVariants as k;
+ghost use Rattle.grammar_parsing.specs.WellFormed.{WellFormedPath};
 ghost use Rattle.grammar_desugaring.specs.BuiltFrom.{IsBuiltFrom};
 ghost use Rattle.grammar_desugaring.specs.Meaning.{path_name};
 
 use crate::policy::{ActionScope, EntityScope, Scope};
 use grammar_desugaring::{Token, decode_string, spelling, type_name};
-use grammar_policies::PathTree;
+use grammar_parsing::PathTree;
 use plain::NoMemory;
 use std::alloc::Global;
 use values::{EntityUid, SharedText, TypeName};

@@ -3,8 +3,8 @@ ghost use Rattle.policy_grammar.specs.PolicyText.{IsUidText, IsUidRefused, IsPol
 ghost use Rattle.policy_grammar.specs.PolicyText.{IsFileRefused};
 ghost use Rattle.policy_grammar.specs.Unique.{HasOneReading, IsFileOf, ReportedIsLeast, EachIsNamed, NamesDiffer};
 
-use grammar_desugaring::{least_fault_is_reported, lexing_is_unique, strings_have_one_meaning};
-use grammar_policies::{reading_is_unique, trees_are_made_of_tokens};
+use grammar_desugaring::{least_fault_is_reported, strings_have_one_meaning};
+use grammar_parsing::{lexing_is_unique, reading_is_unique, trees_are_made_of_tokens};
 
 /// Proves that each text has exactly one outcome, a value or an error, as a uid, as a policy and as a file. No-op.
 pub fn texts_have_one_reading()

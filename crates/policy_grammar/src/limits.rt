@@ -4,7 +4,7 @@ ghost use Rattle.policy_grammar.specs.Limits as spec;
 ghost use Rattle.policy_grammar.specs.Limits.{IsSmallOver, IsId, ShapesAreSizes, NineNodesMore, HeadsAreLow};
 
 use grammar_core::{HEIGHT_MAX, NODES_MAX};
-use grammar_policies::{ActionTree, PartTree, PolicyTree};
+use grammar_parsing::{ActionTree, PartTree, PolicyTree};
 use plain::Text;
 
 /// The greatest height of the conditions' core expression: the policy's expression has three `&&` above it, and no

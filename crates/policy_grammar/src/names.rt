@@ -2,7 +2,7 @@
 ghost use Rattle.std.specs.Prelude.{◌≡◌, ◌++◌, [], IfOk, IfSome, codes, decimal, find, length, map, string_bytes};
 ghost use Rattle.std.specs.Option.{option_copied};
 ghost use Rattle.std.specs.List.{AllByRecursion};
-ghost use Rattle.grammar_policies.specs.WellFormed.{WellFormedAnnotation, WellFormedPolicy};
+ghost use Rattle.grammar_parsing.specs.WellFormed.{WellFormedAnnotation, WellFormedPolicy};
 ghost use Rattle.policy_grammar.specs.Conditions.{condition_faults};
 ghost use Rattle.policy_grammar.specs.CoreOf.{IsValueOf, is_id, IsNameOf, AreNamesOf, AreCoresOf};
 ghost use Rattle.grammar_desugaring.specs.BuiltFrom.{IsBuiltFrom};
@@ -12,7 +12,7 @@ use crate::core_of::core_like;
 use crate::dropping::after;
 use crate::policy::Policy;
 use grammar_desugaring::{decode_string, spelling};
-use grammar_policies::{Annotation, PolicyTree};
+use grammar_parsing::{Annotation, PolicyTree};
 use itoa::Buffer;
 use plain::{NoMemory, Text};
 use std::alloc::Global;

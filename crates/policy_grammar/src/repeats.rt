@@ -1,7 +1,7 @@
 //! The errors of policies whose name occurs earlier in their file.
 ghost use Rattle.std.specs.Prelude.{◌≡◌, ◌||◌, IfOk, length};
 ghost use Rattle.std.specs.List.{AllByRecursion};
-ghost use Rattle.grammar_policies.specs.WellFormed.{WellFormedPolicy};
+ghost use Rattle.grammar_parsing.specs.WellFormed.{WellFormedPolicy};
 ghost use Rattle.policy_grammar.specs.CoreOf.{AreNamesOf};
 ghost use Rattle.grammar_desugaring.specs.ReportedErrors.{least};
 ghost use Rattle.grammar_desugaring.specs.Repeats.{repeat_faults, abstract_names};
@@ -11,7 +11,7 @@ ghost use Rattle.policy_grammar.specs.inner.Parts.{has_id, has_index_prefix, som
 
 use crate::names::has_id;
 use grammar_desugaring::{DesugarFault, NameAt, first_duplicate, repeats_are_exact};
-use grammar_policies::PolicyTree;
+use grammar_parsing::PolicyTree;
 use plain::{NoMemory, Text};
 use std::alloc::Global;
 

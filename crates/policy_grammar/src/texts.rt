@@ -1,7 +1,7 @@
 //! Parsers of a whole text: a uid, a policy, or a file of policies.
 ghost use Rattle.std.specs.Prelude.{IfOk, IfErr, map, string_bytes};
 ghost use Rattle.std.specs.List.{AllByRecursion};
-ghost use Rattle.grammar_policies.specs.WellFormed.{WellFormedPolicy};
+ghost use Rattle.grammar_parsing.specs.WellFormed.{WellFormedPolicy};
 ghost use Rattle.policy_grammar.specs.declared.fault.ReadFault.TheVariants as ReadFault;
 ghost use Rattle.policy_grammar.specs.CoreOf.{AreNamesOf};
 ghost use Rattle.policy_grammar.specs.PolicyText.{IsUidText, IsPolicyOf, HasNoPolicy, ArePoliciesOf, HaveNoPolicies};
@@ -21,7 +21,7 @@ use crate::repeats::repeated_name;
 use crate::tree_check::{check_tree, check_trees};
 use crate::trees::{policy_tree, policy_trees, uid_tree};
 use grammar_desugaring::{earlier_of, least_fault_is_reported};
-use grammar_policies::PolicyTree;
+use grammar_parsing::PolicyTree;
 use plain::{NoMemory, Text};
 use std::alloc::Global;
 use values::EntityUid;

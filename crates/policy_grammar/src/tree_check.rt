@@ -4,14 +4,14 @@ ghost use Rattle.std.specs.Prelude.{◌≡◌, ◌↔◌, IsTrue, IfOk};
 ghost use Rattle.std.specs.List.{AllByRecursion};
 ghost use Rattle.grammar_desugaring.specs.ReportedErrors as spec;
 ghost use Rattle.grammar_desugaring.specs.BuiltFrom.{IsBuiltFrom};
-ghost use Rattle.grammar_policies.specs.WellFormed.{WellFormedPolicy};
+ghost use Rattle.grammar_parsing.specs.WellFormed.{WellFormedPolicy};
 ghost use Rattle.policy_grammar.specs.inner.Parts.{ReportsPolicy, ReportsFile};
 
 use crate::annotations::repeated_annotation;
 use crate::conditions::measure_conditions;
 use crate::limits::is_small;
 use grammar_desugaring::{DesugarFault, earlier_of, least_fault_is_reported};
-use grammar_policies::PolicyTree;
+use grammar_parsing::PolicyTree;
 use plain::NoMemory;
 use std::alloc::Global;
 

@@ -1,10 +1,10 @@
 //! Parsers of a whole text into syntax trees: of a uid, of a policy, or of a file of policies.
 ghost use Rattle.std.specs.Prelude.{◌≡◌, IfOk, IfErr, slice_get};
 ghost use Rattle.std.specs.List.{AllByRecursion};
-ghost use Rattle.grammar_policies.specs.grammar_expressions.Expressions.{nesting_limit};
-ghost use Rattle.grammar_desugaring.specs.grammar_tokens.Lang.{at_any};
-ghost use Rattle.grammar_policies.specs.Grammar as grammar;
-ghost use Rattle.grammar_policies.specs.WellFormed.{WellFormedUid, WellFormedPolicy};
+ghost use Rattle.grammar_parsing.specs.Expressions.{nesting_limit};
+ghost use Rattle.grammar_desugaring.specs.grammar_syntax.Lang.{at_any};
+ghost use Rattle.grammar_parsing.specs.Grammar as grammar;
+ghost use Rattle.grammar_parsing.specs.WellFormed.{WellFormedUid, WellFormedPolicy};
 ghost use Rattle.grammar_desugaring.specs.BuiltFrom.{IsBuiltFrom};
 ghost use Rattle.policy_grammar.specs.declared.fault.ReadFault.TheVariants as ReadFault;
 ghost use Rattle.plain.specs.AllocationErrors.{OrNoMemory};
@@ -13,7 +13,7 @@ ghost use Rattle.policy_grammar.specs.inner.TreeParts.{LexedIn, IsUnlexed, refus
 
 use crate::fault::ReadFault;
 use grammar_desugaring::{Token, tokens};
-use grammar_policies::{PolicyTree, SyntaxFault, UidTree, read_policies, read_policy, read_uid};
+use grammar_parsing::{PolicyTree, SyntaxFault, UidTree, read_policies, read_policy, read_uid};
 use std::alloc::Global;
 
 /// The greatest number of bytes of the text of a policy that is parsed alone, or of a uid.

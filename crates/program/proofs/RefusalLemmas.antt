@@ -1,7 +1,7 @@
 -- Out of memory among the errors.
 use Rattle.std.proofs.Common.{◌≡◌, ◌⊎◌, inl, inr, ℕ, zero, suc, Bool, true, false, List, Option, None, Some, refl}
-use Rattle.program_drills.specs.http_service.answer_lines.declared.refusal.Refusal.{Refusal}
-use Rattle.program_drills.specs.http_service.answer_lines.Refusals.{no_memory}
+use Rattle.program_drills.specs.answer_lines.declared.refusal.Refusal.{Refusal}
+use Rattle.program_drills.specs.answer_lines.Refusals.{no_memory}
 use Rattle.program.specs.Events.{Event}
 use Rattle.program.specs.Reports.{IsRefusalReported, IsMemoryReported}
 use Rattle.program.specs.Courses.{IsRefusedFor, IsLineOrRefusal}

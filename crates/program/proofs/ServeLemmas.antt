@@ -3,14 +3,14 @@ use Rattle.std.proofs.Common.{◌≡◌, ◌≢◌, ◌∙◌, inl, inr, ℕ, ze
 use Rattle.std.proofs.Common.{Option, None, Some}
 use Rattle.std.proofs.Common.{Result, Ok, Err, IsErr}
 use Rattle.std.proofs.Common.{IfOk, IfErr, refl, sym, ap, subst, arith, append_assoc, append-nil}
-use Rattle.state_exchanges.specs.http_streams.declared.devices.Source.{Ghosts as Source}
-use Rattle.state_exchanges.specs.http_streams.declared.devices.Sink.{Ghosts as Sink}
-use Rattle.state_exchanges.specs.http_streams.Logs.{IsLogged}
-use Rattle.state_exchanges.specs.http_streams.declared.serve.LoggedFault.{LoggedFault}
-use Rattle.state_exchanges.specs.http_streams.declared.serve.LoggedFault.TheVariants as logged_fault
+use Rattle.program_exchanges.specs.http_streams.declared.devices.Source.{Ghosts as Source}
+use Rattle.program_exchanges.specs.http_streams.declared.devices.Sink.{Ghosts as Sink}
+use Rattle.program_exchanges.specs.http_streams.Logs.{IsLogged}
+use Rattle.program_exchanges.specs.http_streams.declared.serve.LoggedFault.{LoggedFault}
+use Rattle.program_exchanges.specs.http_streams.declared.serve.LoggedFault.TheVariants as logged_fault
 use Rattle.program_drills.specs.http_service.LogLines.{IsLogLine, unread_line}
-use Rattle.program_drills.specs.http_service.answer_lines.declared.refusal.Refusal.{Refusal}
-use Rattle.program_drills.specs.http_service.answer_lines.Refusals.{no_memory}
+use Rattle.program_drills.specs.answer_lines.declared.refusal.Refusal.{Refusal}
+use Rattle.program_drills.specs.answer_lines.Refusals.{no_memory}
 use Rattle.program_lines.specs.declared.line.ServeOptions.{ServeOptions}
 use Rattle.site_loading.specs.schema.Schemas.{StatedSchema, IsSchemaOf}
 use Rattle.site_loading.specs.schema.Views.{schema_view}
@@ -18,15 +18,15 @@ use Rattle.std.specs.FinMap.{len-empty, len-entries}
 use Rattle.values.specs.Names.{name_cmp}
 use Rattle.program_lines.specs.stamped_store.EntryOrder.{PlainEntry}
 use Rattle.program_lines.specs.stamped_store.Store.{store_of, updates}
-use Rattle.state_exchanges.specs.message_format.Updates.{plain_updates}
-use Rattle.site_loading.specs.site_steps.SiteViews.{SiteView, schema_of, store_in}
-use Rattle.site_loading.specs.site_steps.declared.fault.SiteFault.{SiteFault}
-use Rattle.site_loading.specs.site_steps.declared.fault.SiteFault.TheVariants.{NoMemory, Policy, Check as Unfit, Entity}
-use Rattle.site_loading.specs.site_steps.declared.fault.SiteFault.TheVariants.{Message, NotThere, WouldCycle, ClockFull}
-use Rattle.site_loading.specs.site_steps.declared.fault.SiteFault.TheVariants.{Request}
-use Rattle.program_drills.specs.http_service.site_steps.Readings.{parsed}
-use Rattle.program_drills.specs.http_service.site_steps.Runs.{IsNoMessageOf}
-use Rattle.program_drills.specs.http_service.site_steps.sync_messages.Messages.{IsMessageOf}
+use Rattle.program_exchanges.specs.sync_format.Updates.{plain_updates}
+use Rattle.site_loading.specs.site.SiteViews.{SiteView, schema_of, store_in}
+use Rattle.site_loading.specs.site.declared.fault.SiteFault.{SiteFault}
+use Rattle.site_loading.specs.site.declared.fault.SiteFault.TheVariants.{NoMemory, Policy, Check as Unfit, Entity}
+use Rattle.site_loading.specs.site.declared.fault.SiteFault.TheVariants.{Message, NotThere, WouldCycle, ClockFull}
+use Rattle.site_loading.specs.site.declared.fault.SiteFault.TheVariants.{Request}
+use Rattle.site_loading.specs.site.Readings.{parsed}
+use Rattle.site_loading.specs.site.Runs.{IsNoMessageOf}
+use Rattle.program_drills.specs.sync_messages.Messages.{IsMessageOf}
 use Rattle.program.specs.declared.device.Link.{Link}
 use Rattle.program.specs.declared.device.NetworkFailed.{NetworkFailed}
 use Rattle.program.specs.declared.device.Stream.TheVariants.{Answers, Faults}

@@ -3,7 +3,7 @@
 use Rattle.std.specs.Prelude.{◌≡◌, ℕ, Bool, true, false, List, [], ◌∷◌, Option, Result}
 use Rattle.std.specs.Io.KnownBytes.{Appends}
 use Rattle.program_lines.specs.declared.fault.LineFault.{LineFault}
-use Rattle.state_exchanges.specs.http_streams.declared.serve.LoggedFault.{LoggedFault}
+use Rattle.program_exchanges.specs.http_streams.declared.serve.LoggedFault.{LoggedFault}
 use Rattle.program.specs.declared.device.FileFault.{FileFault}
 use Rattle.program.specs.declared.device.Stream.{Stream}
 use Rattle.program.specs.declared.device.Stream.TheVariants.{Answers, Faults}

@@ -10,19 +10,19 @@ use Rattle.std.specs.Prelude.{decimal, if◌then◌else◌, nat_eq}
 use Rattle.std.specs.Borrow.{Bor}
 use Rattle.site_loading.specs.schema.Schemas.{StatedSchema, IsSchemaOf}
 use Rattle.program_drills.specs.schema_decisions.Checks.{IsSchemaRefused}
-use Rattle.program_drills.specs.http_service.answer_lines.Refusals.{no_memory}
+use Rattle.program_drills.specs.answer_lines.Refusals.{no_memory}
 use Rattle.program_lines.specs.declared.line.ExchangeOptions.{ExchangeOptions}
-use Rattle.state_exchanges.specs.http_streams.declared.devices.Source.{Ghosts as Source}
-use Rattle.state_exchanges.specs.http_streams.declared.devices.Sink.{Ghosts as Sink}
-use Rattle.state_exchanges.specs.declared.asking.ExchangeCall.{ExchangeCall}
-use Rattle.state_exchanges.specs.declared.asking.ExchangeCall.TheVariants as call
-use Rattle.state_exchanges.specs.declared.fault.NetworkFault.TheVariants as network
-use Rattle.state_exchanges.specs.declared.fault.PullFault.{PullFault}
-use Rattle.state_exchanges.specs.declared.fault.PullFault.TheVariants.{Network, Refused}
-use Rattle.state_exchanges.specs.http_streams.declared.TheConstants.{MAX_BODY}
-use Rattle.state_exchanges.specs.Requests.{call_request, call_size}
-use Rattle.state_exchanges.specs.Counts.{IsTakenLine}
-use Rattle.state_exchanges.specs.Exchanges.{IsRequestBegun, IsUnanswered, ReportsNoHost, ReportsTooLarge}
+use Rattle.program_exchanges.specs.http_streams.declared.devices.Source.{Ghosts as Source}
+use Rattle.program_exchanges.specs.http_streams.declared.devices.Sink.{Ghosts as Sink}
+use Rattle.program_exchanges.specs.declared.asking.ExchangeCall.{ExchangeCall}
+use Rattle.program_exchanges.specs.declared.asking.ExchangeCall.TheVariants as call
+use Rattle.program_exchanges.specs.declared.fault.NetworkFault.TheVariants as network
+use Rattle.program_exchanges.specs.declared.fault.PullFault.{PullFault}
+use Rattle.program_exchanges.specs.declared.fault.PullFault.TheVariants.{Network, Refused}
+use Rattle.program_exchanges.specs.http_streams.declared.TheConstants.{MAX_BODY}
+use Rattle.program_exchanges.specs.Requests.{call_request, call_size}
+use Rattle.program_exchanges.specs.Counts.{IsTakenLine}
+use Rattle.program_exchanges.specs.Exchanges.{IsRequestBegun, IsUnanswered, ReportsNoHost, ReportsTooLarge}
 use Rattle.program.specs.declared.device.Link.{Link}
 use Rattle.program.specs.declared.exchanging.CallFault.{CallFault}
 use Rattle.program.specs.declared.exchanging.CallFault.TheVariants as cause

@@ -12,8 +12,8 @@ use Rattle.explanations.specs.Codes.{is_code}
 use Rattle.explanations.specs.Files.{File, Files}
 use Rattle.explanations.specs.TextParts.{IsMessageExplained}
 use Rattle.explanations.specs.FileExplanations.{IsExplained}
-use Rattle.program_drills.specs.http_service.answer_lines.declared.refusal.Refusal.{Refusal}
-use Rattle.program_drills.specs.http_service.answer_lines.Refusals.{no_memory}
+use Rattle.program_drills.specs.answer_lines.declared.refusal.Refusal.{Refusal}
+use Rattle.program_drills.specs.answer_lines.Refusals.{no_memory}
 use Rattle.program.specs.declared.device.Stream.TheVariants.{Faults}
 use Rattle.program.specs.Events.{Event, wrote}
 use Rattle.program.specs.Reports.{ended, IsAnswerReported, IsRefusalReported, IsMemoryReported}

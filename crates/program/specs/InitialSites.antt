@@ -4,20 +4,20 @@
 -- the site applies all of its updates. With `--explain`, what is rejected in the schema is explained or, if nothing is,
 -- the error of the message, with the name of its file.
 use Rattle.std.specs.Prelude.{◌≡◌, ◌⊎◌, ℕ, Bool, List, [], Option, None, Some}
-use Rattle.program_drills.specs.http_service.policy_grammar.declared.policy.Policy.{Policy}
+use Rattle.program_drills.specs.policy_grammar.declared.policy.Policy.{Policy}
 use Rattle.site_loading.specs.schema.Schemas.{StatedSchema, IsSchemaOf}
-use Rattle.program_drills.specs.http_service.entity_data.declared.entity.Entity.{Entity}
+use Rattle.program_drills.specs.entity_data.declared.entity.Entity.{Entity}
 use Rattle.program_lines.specs.stamped_store.Store.{Store, store_of}
-use Rattle.state_exchanges.specs.message_format.declared.fault.MessageFault.{MessageFault}
-use Rattle.state_exchanges.specs.message_format.declared.update.Update.{Update as SentUpdate}
-use Rattle.state_exchanges.specs.message_format.Updates.{plain_updates}
-use Rattle.program_drills.specs.http_service.answer_lines.declared.refusal.Refusal.{Refusal}
+use Rattle.program_exchanges.specs.sync_format.declared.fault.MessageFault.{MessageFault}
+use Rattle.program_exchanges.specs.sync_format.declared.update.Update.{Update as SentUpdate}
+use Rattle.program_exchanges.specs.sync_format.Updates.{plain_updates}
+use Rattle.program_drills.specs.answer_lines.declared.refusal.Refusal.{Refusal}
 use Rattle.program_drills.specs.schema_decisions.Checks.{IsSchemaRefused}
-use Rattle.site_loading.specs.site_steps.Faults.{code_of, place_of, within_of}
-use Rattle.site_loading.specs.site_steps.SiteViews.{SiteView, schema_of, store_in}
-use Rattle.site_loading.specs.site_steps.declared.fault.SiteFault.{SiteFault}
-use Rattle.site_loading.specs.site_steps.declared.fault.SiteFault.TheVariants.{Message}
-use Rattle.program_drills.specs.http_service.site_steps.sync_messages.Messages.{IsMessageOf, IsMessageFaultOf}
+use Rattle.site_loading.specs.site.Faults.{code_of, place_of, within_of}
+use Rattle.site_loading.specs.site.SiteViews.{SiteView, schema_of, store_in}
+use Rattle.site_loading.specs.site.declared.fault.SiteFault.{SiteFault}
+use Rattle.site_loading.specs.site.declared.fault.SiteFault.TheVariants.{Message}
+use Rattle.program_drills.specs.sync_messages.Messages.{IsMessageOf, IsMessageFaultOf}
 use Rattle.program.specs.Courses.{Course}
 use Rattle.program.specs.ExplainOption.{schema_files, IsRefusalText, IsErrorThenText}
 
@@ -52,7 +52,7 @@ IsInitialSiteRefused schema state r = IsSchemaRefused schema r
     ⊎ ((s : StatedSchema) × IsSchemaOf schema s × IsStateRefused s state r)
 
 -- `IsNotCreated wanted schema_file state_file schema state`: the error of `schema` or the error of `state` (the
--- contents of `schema_file` and `state_file`), or out of memory, is reported. If `wanted`, what is rejected in the
+-- contents of `schema_reading` and `state_file`), or out of memory, is reported. If `wanted`, what is rejected in the
 -- schema is then explained or, if nothing is, the error of the state, or out of memory by its code.
 abbrev pub IsNotCreated : {L G : Type 0} → Bool → List ℕ → Option (List ℕ) → List ℕ → Option (List ℕ) → Course L G
 IsNotCreated wanted schema_file state_file schema state = IsErrorThenText wanted

@@ -4,7 +4,7 @@
 -- initial state, the policies and the entities; the initial site is created as in `serve`; the state of the site after
 -- the puts is printed, unless there is an error.
 use Rattle.std.specs.Prelude.{◌⊎◌, ℕ, List, Option, None, Some, option_map}
-use Rattle.site_loading.specs.site_steps.SiteViews.{SiteView, schema_of, store_in}
+use Rattle.site_loading.specs.site.SiteViews.{SiteView, schema_of, store_in}
 use Rattle.site_loading.specs.Loads as loads
 use Rattle.program_lines.specs.declared.line.LoadOptions.{LoadOptions}
 use Rattle.program.specs.InitialSites.{IsInitialSite, IsNotCreated}

@@ -3,8 +3,8 @@
 -- Rules of this product: what is rejected in the schema is explained or, if nothing is, the error of the first rejected
 -- message, with the name of its file.
 use Rattle.std.specs.Prelude.{◌≡◌, ◌⊎◌, ℕ, List, Some}
-use Rattle.state_exchanges.specs.Merges.{IsMerged, AreRefused}
-use Rattle.program_drills.specs.http_service.answer_lines.declared.refusal.Refusal.{Refusal}
+use Rattle.program_exchanges.specs.Merges.{IsMerged, AreRefused}
+use Rattle.program_drills.specs.answer_lines.declared.refusal.Refusal.{Refusal}
 use Rattle.program_lines.specs.declared.line.MergeOptions.{MergeOptions}
 use Rattle.explanations.specs.Files.{Files}
 use Rattle.program.specs.ExplainOption.{IsRefusalText}

@@ -6,18 +6,18 @@ use Rattle.std.specs.Prelude.{◌≡◌, ◌≢◌, ◌⊎◌, ℕ, List, ◌∷
 use Rattle.site_loading.specs.schema.Schemas.{StatedSchema}
 use Rattle.program_lines.specs.declared.line.PullOptions.{PullOptions}
 use Rattle.program_lines.specs.stamped_store.Store.{Store}
-use Rattle.program_drills.specs.http_service.answer_lines.declared.refusal.Refusal.{Refusal}
-use Rattle.program_drills.specs.http_service.answer_lines.Refusals.{no_memory}
-use Rattle.state_exchanges.specs.http_streams.declared.devices.Source.{Ghosts as Source}
-use Rattle.state_exchanges.specs.http_streams.declared.devices.Sink.{Ghosts as Sink}
-use Rattle.state_exchanges.specs.declared.fault.NetworkFault.TheVariants as network
-use Rattle.state_exchanges.specs.declared.fault.PullFault.{PullFault}
-use Rattle.state_exchanges.specs.declared.fault.PullFault.TheVariants.{Network, Refused}
-use Rattle.state_exchanges.specs.declared.pulling.Pulled.{Pulled}
-use Rattle.state_exchanges.specs.Messages.{IsMessageRefused}
-use Rattle.state_exchanges.specs.Requests.{IsReady, request_for}
-use Rattle.state_exchanges.specs.Exchanges.{IsAnswered, IsRequestBegun, IsUnanswered}
-use Rattle.state_exchanges.specs.Pulls.{IsPulled, IsFirstError}
+use Rattle.program_drills.specs.answer_lines.declared.refusal.Refusal.{Refusal}
+use Rattle.program_drills.specs.answer_lines.Refusals.{no_memory}
+use Rattle.program_exchanges.specs.http_streams.declared.devices.Source.{Ghosts as Source}
+use Rattle.program_exchanges.specs.http_streams.declared.devices.Sink.{Ghosts as Sink}
+use Rattle.program_exchanges.specs.declared.fault.NetworkFault.TheVariants as network
+use Rattle.program_exchanges.specs.declared.fault.PullFault.{PullFault}
+use Rattle.program_exchanges.specs.declared.fault.PullFault.TheVariants.{Network, Refused}
+use Rattle.program_exchanges.specs.declared.pulling.Pulled.{Pulled}
+use Rattle.program_exchanges.specs.Messages.{IsMessageRefused}
+use Rattle.program_exchanges.specs.Requests.{IsReady, request_for}
+use Rattle.program_exchanges.specs.Exchanges.{IsAnswered, IsRequestBegun, IsUnanswered}
+use Rattle.program_exchanges.specs.Pulls.{IsPulled, IsFirstError}
 use Rattle.program.specs.declared.device.Link.{Link}
 use Rattle.program.specs.Events.{Event, closed}
 use Rattle.program.specs.Reports.{IsAnswerReported, IsFailureReported, IsMemoryReported, IsRefusalReported}

@@ -3,8 +3,8 @@
 -- Source: docs/codes.md, "Statuses of the program".
 use Prim.Native.Char.{code}
 use Rattle.std.specs.Prelude.{◌≡◌, ◌⊎◌, ℕ, Bool, List, [], ◌∷◌, ◌++◌, if◌then◌else◌, codes, decimal}
-use Rattle.program_drills.specs.http_service.answer_lines.declared.refusal.Refusal.{Refusal}
-use Rattle.program_drills.specs.http_service.answer_lines.Refusals.{error_line, no_memory}
+use Rattle.program_drills.specs.answer_lines.declared.refusal.Refusal.{Refusal}
+use Rattle.program_drills.specs.answer_lines.Refusals.{error_line, no_memory}
 use Rattle.program_lines.specs.declared.fault.LineFault.{LineFault}
 use Rattle.program_lines.specs.declared.fault.LineFault.TheVariants.{Help, Words, Site, Incomplete, NotText, NoMemory}
 use Rattle.program.specs.declared.device.FileFault.{FileFault}

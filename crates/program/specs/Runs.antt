@@ -3,12 +3,12 @@
 -- Source: docs/operating.md.
 use Rattle.std.specs.Prelude.{◌≡◌, ◌⊎◌, ◌&&◌, ℕ, Bool, List, [], Option, None, Some, option_map}
 use Rattle.clap.specs.Words.{Text, fault_of}
-use Rattle.program_drills.specs.http_service.answer_lines.declared.refusal.Refusal.{Refusal}
+use Rattle.program_drills.specs.answer_lines.declared.refusal.Refusal.{Refusal}
 use Rattle.site_loading.specs.decision_texts.BareReading.{bare_reading}
 use Rattle.site_loading.specs.decision_texts.Decisions as bare
-use Rattle.site_loading.specs.schema_decisions.Decisions as typed
+use Rattle.program_drills.specs.schema_decisions.Decisions as typed
 use Rattle.program_drills.specs.schema_decisions.Checks as checks
-use Rattle.state_exchanges.specs.Merges as merges
+use Rattle.program_exchanges.specs.Merges as merges
 use Rattle.program_drills.specs.Drills as drills
 use Rattle.program_lines.specs.declared.line.CheckOptions.{CheckOptions}
 use Rattle.program_lines.specs.declared.line.DecideOptions.{DecideOptions}
@@ -21,8 +21,8 @@ use Rattle.program_lines.specs.declared.fault.LineFault.{LineFault}
 use Rattle.program_lines.specs.Apps.{site_app}
 use Rattle.program_lines.specs.Faults.{IsFaultOf}
 use Rattle.program_lines.specs.Lines.{IsCommandOf}
-use Rattle.state_exchanges.specs.http_streams.declared.devices.Source.{Ghosts as Source}
-use Rattle.state_exchanges.specs.http_streams.declared.devices.Sink.{Ghosts as Sink}
+use Rattle.program_exchanges.specs.http_streams.declared.devices.Source.{Ghosts as Source}
+use Rattle.program_exchanges.specs.http_streams.declared.devices.Sink.{Ghosts as Sink}
 use Rattle.program.specs.declared.device.Link.{Link}
 use Rattle.program.specs.Reports.{AreLinesReported, IsFaultReported}
 use Rattle.program.specs.Courses.{Course, Reads, ReadsIfNamed, IsLineOrRefusal}

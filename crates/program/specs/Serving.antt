@@ -7,16 +7,16 @@
 -- nothing else.
 use Rattle.std.specs.Prelude.{◌≡◌, ◌≢◌, ◌⊎◌, ℕ, zero, suc, ◌*◌, ◌<◌, min, Bool, List, [], ◌∷◌, ◌++◌, Option, None, Some}
 use Rattle.std.specs.Prelude.{Result, Err, codes, false, option_map, true}
-use Rattle.state_exchanges.specs.http_streams.declared.devices.Source.{Ghosts as Source}
-use Rattle.state_exchanges.specs.http_streams.declared.devices.Sink.{Ghosts as Sink}
-use Rattle.state_exchanges.specs.http_streams.declared.serve.LoggedFault.{LoggedFault}
-use Rattle.state_exchanges.specs.http_streams.declared.serve.LoggedFault.TheVariants as logged_fault
+use Rattle.program_exchanges.specs.http_streams.declared.devices.Source.{Ghosts as Source}
+use Rattle.program_exchanges.specs.http_streams.declared.devices.Sink.{Ghosts as Sink}
+use Rattle.program_exchanges.specs.http_streams.declared.serve.LoggedFault.{LoggedFault}
+use Rattle.program_exchanges.specs.http_streams.declared.serve.LoggedFault.TheVariants as logged_fault
 use Rattle.program_lines.specs.declared.line.ServeOptions.{ServeOptions}
 use Rattle.program_lines.specs.stamped_store.Stamping.{has_stamps_of}
-use Rattle.site_loading.specs.site_steps.SiteViews.{SiteView, store_in}
+use Rattle.site_loading.specs.site.SiteViews.{SiteView, store_in}
 use Rattle.program_drills.specs.http_service.Serving.{IsServed}
 use Rattle.program_drills.specs.http_service.LogLines.{IsLogLine, unread_line}
-use Rattle.state_exchanges.specs.http_streams.Logs.{IsLogged}
+use Rattle.program_exchanges.specs.http_streams.Logs.{IsLogged}
 use Rattle.program.specs.declared.device.Link.{Link}
 use Rattle.program.specs.declared.device.Stream.TheVariants.{Answers, Faults}
 use Rattle.program.specs.Events.{Event, accepted, closed, listened, paused, served, wrote}

@@ -2,7 +2,7 @@
 ghost use Rattle.std.specs.Prelude.{◌≡◌, IfOk, IfErr, option_map};
 ghost use Rattle.std.specs.Process.{exit_status};
 ghost use Rattle.plain.specs.AllocationErrors.{OrNoMemory};
-ghost use Rattle.program_drills.specs.http_service.answer_lines.Refusals.{no_memory};
+ghost use Rattle.program_drills.specs.answer_lines.Refusals.{no_memory};
 ghost use Rattle.program.specs.Events.{Runs};
 ghost use Rattle.explanations.specs.Files.{files_of};
 ghost use Rattle.program.specs.Runs.{IsDecided, IsNotDecided, IsDecideRun, IsCheckRun};

@@ -1,8 +1,8 @@
 //! The command `exchange`: one round between two running sites, in both directions.
 ghost use Rattle.std.specs.Prelude.{◌≡◌, ◌<◌, Err, IfErr, IfOk, MatchResult, Ok, OnOk, string_bytes, true};
 ghost use Rattle.std.specs.Process.{exit_status};
-ghost use Rattle.state_exchanges.specs.Counts.{IsTakenLine};
-ghost use Rattle.state_exchanges.specs.declared.fault.PullFault.{PullFault};
+ghost use Rattle.program_exchanges.specs.Counts.{IsTakenLine};
+ghost use Rattle.program_exchanges.specs.declared.fault.PullFault.{PullFault};
 ghost use Rattle.program.specs.declared.device.Stream.TheVariants.{Answers};
 ghost use Rattle.program.specs.Events.{Runs, wrote};
 ghost use Rattle.program.specs.Exchanging.{CallsOver, Calls, Direction, IsCallErrorReported, IsCallReported};
@@ -17,9 +17,9 @@ use crate::host::Host;
 use crate::reading::read_file;
 use crate::report::{ANSWERED, FAILED, report_failure, report_memory, report_refusal};
 use plain::NoMemory;
+use program_exchanges::{ExchangeCall, NetworkFault, PullFault, ask, is_taken_line};
 use program_lines::ExchangeOptions;
 use site_loading::schema_in;
-use state_exchanges::{ExchangeCall, NetworkFault, PullFault, ask, is_taken_line};
 use std::alloc::Global;
 use std::process::ExitCode;
 

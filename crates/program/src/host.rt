@@ -6,8 +6,8 @@ ghost use Rattle.program.specs.Events.{printed, read, served, stored, wrote};
 ghost use Rattle.program.specs.Reports.{ended};
 
 use crate::device::{FileFault, Link, NetworkFailed, Stream, StreamFailed};
+use program_exchanges::{LoggedFault, Sink, Source};
 use program_lines::LineFault;
-use state_exchanges::{LoggedFault, Sink, Source};
 
 /// A machine with files, two streams, connections, logs and pauses.
 pub trait Host {

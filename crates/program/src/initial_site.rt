@@ -1,7 +1,7 @@
 //! The initial site of a run: empty, or with the updates of a state.
 ghost use Rattle.std.specs.Prelude.{◌≡◌, IfOk, IfErr, Some, option_map};
-ghost use Rattle.program_drills.specs.http_service.answer_lines.Refusals.{no_memory};
-ghost use Rattle.site_loading.specs.site_steps.SiteViews.{schema_of};
+ghost use Rattle.program_drills.specs.answer_lines.Refusals.{no_memory};
+ghost use Rattle.site_loading.specs.site.SiteViews.{schema_of};
 ghost use Rattle.program.specs.InitialSites.{IsInitialSite, IsInitialSiteRefused, IsStateRefused, site_refusal};
 ghost use Rattle.program.specs.inner.InitialUpdates.{TakesState};
 

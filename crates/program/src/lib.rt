@@ -19,13 +19,19 @@ mod system;
 
 pub use device::{FileFault, Link, NetworkFailed, Stream, StreamFailed};
 pub use host::Host;
-pub use program_drills::{Refusal, check_texts, decide_under, drill_text};
-pub use program_lines::{
-    CheckOptions, DecideOptions, DrillOptions, ExchangeOptions, ExplainOptions, Line, LineFault,
-    LoadOptions, MergeOptions, PullOptions, ServeOptions, SiteName, line_of,
-};
 pub use report::report_words;
 pub use running::run;
-pub use site_loading::decide_texts;
-pub use state_exchanges::{NetworkFault, PullFault, Pulled, merge_texts, pull_over};
 pub use system::SystemHost;
+
+// of this layer
+pub use program_drills::drill_text;
+pub use program_exchanges::{NetworkFault, PullFault, Pulled, merge_texts, pull_over};
+pub use program_lines::{
+    CheckOptions, DecideOptions, DrillOptions, ExchangeOptions, ExplainOptions, Line, LineFault,
+    LoadOptions, MergeOptions, PullOptions, ServeOptions, line_of,
+};
+
+// of lower layers
+pub use program_drills::{Refusal, check_texts, decide_under};
+pub use program_lines::SiteName;
+pub use site_loading::decide_texts;

@@ -2,7 +2,7 @@
 //! this status, which is 3 if writing fails.
 ghost use Rattle.std.specs.Prelude.{◌≡◌, ◌⊎◌, ◌++◌, List, ℕ, codes, is_ok};
 ghost use Rattle.std.specs.Process.{exit_status};
-ghost use Rattle.program_drills.specs.http_service.answer_lines.Refusals.{error_line};
+ghost use Rattle.program_drills.specs.answer_lines.Refusals.{error_line};
 ghost use Rattle.program.specs.declared.device.Stream.TheVariants.{Faults};
 ghost use Rattle.program.specs.Events.{Runs};
 ghost use Rattle.program.specs.ExplainCommand.{IsWithoutEnd, is_some_text};

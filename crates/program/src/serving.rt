@@ -2,7 +2,7 @@
 ghost use Rattle.std.specs.Prelude.{◌≡◌, ◌*◌, MatchResult, min, option_map};
 ghost use Rattle.std.specs.Process.{exit_status};
 ghost use Rattle.program_lines.specs.stamped_store.Stamping.{has_stamps_of};
-ghost use Rattle.site_loading.specs.site_steps.SiteViews.{store_in};
+ghost use Rattle.site_loading.specs.site.SiteViews.{store_in};
 ghost use Rattle.program.specs.Events.{Runs};
 ghost use Rattle.program.specs.Courses.{ClosesAfter, closing};
 ghost use Rattle.program.specs.Serving.{IsListening, IsNotListening, IsServedAt, IsServedFrom, IsServedIfListening};
@@ -17,8 +17,8 @@ use crate::reading::{lent, read_file, read_if_named};
 use crate::rejecting::{report_rejected, schema_given};
 use crate::report::{ANSWERED, FAILED, report_failure};
 use program_drills::{Site, serve, serve_logged};
+use program_exchanges::LoggedFault;
 use program_lines::{ServeOptions, SiteName};
-use state_exchanges::LoggedFault;
 use std::alloc::Global;
 use std::process::ExitCode;
 

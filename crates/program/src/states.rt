@@ -2,7 +2,7 @@
 ghost use Rattle.std.specs.Prelude.{◌≡◌, ◌⊎◌, IfOk, option_map, string_bytes};
 ghost use Rattle.std.specs.Process.{exit_status};
 ghost use Rattle.explanations.specs.Files.{files_of};
-ghost use Rattle.program_drills.specs.http_service.answer_lines.Refusals.{no_memory};
+ghost use Rattle.program_drills.specs.answer_lines.Refusals.{no_memory};
 ghost use Rattle.program.specs.Events.{Runs};
 ghost use Rattle.program.specs.ExplainOption.{IsErrorReported, Explains, IsExplanationWritten};
 ghost use Rattle.program.specs.Merging.{IsAtFault, IsMergeText};
@@ -19,8 +19,8 @@ use crate::report::{report_answer, report_failure, report_file, report_memory, r
 use explanations::Given;
 use plain::NoMemory;
 use program_drills::Refusal;
+use program_exchanges::{PullFault, Pulled, merge_texts, pull_over};
 use program_lines::{MergeOptions, PullOptions};
-use state_exchanges::{PullFault, Pulled, merge_texts, pull_over};
 use std::alloc::Global;
 use std::process::ExitCode;
 

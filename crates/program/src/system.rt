@@ -6,8 +6,8 @@ ghost use Rattle.program.specs.Reports.{ended};
 
 use crate::device::{FileFault, Link, NetworkFailed, Stream, StreamFailed};
 use crate::host::Host;
+use program_exchanges::{Counted, LoggedFault};
 use program_lines::LineFault;
-use state_exchanges::{Counted, LoggedFault};
 use std::fs::{File, Files, OpenFile, OpenOptions};
 use std::io::{ErrorKind, Read, Seek, SeekFrom, Write};
 use std::net::{Net, OpenListener, OpenStream, TcpListener, TcpStream};

@@ -5,7 +5,7 @@ use Rattle.std.specs.Option.{option_to_list, IsSome}
 use Rattle.std.specs.List.{AllZip, join_with_byte}
 use Rattle.std.proofs.lemmas.List.{append_assoc, append-nil, length-append, map-append}
 use Rattle.serde_json.specs.Written.{has_float}
-use Rattle.http_service.specs.site_calls.site_steps.SiteViews.{SiteView}
+use Rattle.http_service.specs.site.SiteViews.{SiteView}
 use Rattle.http_service.specs.site.declared.event.EventReply.{EventReply}
 use Rattle.program_drills.specs.Lines.{line_end}
 use Rattle.program_drills.specs.EventReports.{message_json, summary_json, state_line}

@@ -7,7 +7,7 @@ use Rattle.std.specs.List.{AllZip, join_with_byte}
 use Rattle.schema_decisions.specs.answer_lines.declared.refusal.Refusal.{Refusal}
 use Rattle.schema_decisions.specs.Checks.{IsSchemaRefused}
 use Rattle.schema_decisions.specs.schema.Schemas.{StatedSchema, IsSchemaOf}
-use Rattle.http_service.specs.site_calls.site_steps.SiteViews.{SiteView}
+use Rattle.http_service.specs.site.SiteViews.{SiteView}
 use Rattle.http_service.specs.site.Sites.{first_sites}
 use Rattle.http_service.specs.site.SystemViews.{IsRunTo}
 use Rattle.http_service.specs.site.declared.event.Event.{Event}

@@ -3,13 +3,13 @@
 use Rattle.std.specs.Prelude.{ℕ, List, Option, Some, None, Ok, Err, codes}
 use Rattle.serde_json.specs.Data.{Data, number, object, unsigned, no_members, member}
 use Rattle.serde_json.specs.Written.{compact_text}
-use Rattle.http_service.specs.site_calls.Replies.{answer_reply, fault_reply, put_reply, stamp_reply, taken_reply}
-use Rattle.http_service.specs.site_calls.site_steps.SiteViews.{SiteView, schema_of, store_in}
-use Rattle.http_service.specs.site.site_steps.declared.reply.Reply.{Reply}
-use Rattle.http_service.specs.site.site_steps.declared.reply.Reply.TheVariants as reply
+use Rattle.http_service.specs.http_replies.Replies.{answer_reply, fault_reply, put_reply, stamp_reply, taken_reply}
+use Rattle.http_service.specs.site.SiteViews.{SiteView, schema_of, store_in}
+use Rattle.http_service.specs.site.declared.reply.Reply.{Reply}
+use Rattle.http_service.specs.site.declared.reply.Reply.TheVariants as reply
 use Rattle.http_service.specs.site.declared.event.EventReply.{EventReply}
 use Rattle.http_service.specs.site.declared.event.EventReply.TheVariants.{Unknown, Replied, Message, Summary}
-use Rattle.http_service.specs.site_calls.message_format.Messages.{state_text}
+use Rattle.http_service.specs.sync_format.Messages.{state_text}
 
 -- `message_json k` is the JSON with the number of message `k`.
 abbrev pub message_json : ℕ → Data

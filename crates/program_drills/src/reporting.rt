@@ -3,8 +3,8 @@ ghost use Rattle.std.specs.Prelude.{◌≡◌, ℕ, List, [], ◌∷◌, ◌++�
 ghost use Rattle.std.specs.List.{AllZip, join_with_byte};
 ghost use Rattle.serde_json.specs.View.{view};
 ghost use Rattle.schema_decisions.specs.answer_lines.Lines.{answer_line};
-ghost use Rattle.http_service.specs.site_calls.Replies.{answer_reply, fault_reply, put_reply, stamp_reply};
-ghost use Rattle.http_service.specs.site_calls.Replies.{taken_reply};
+ghost use Rattle.http_service.specs.http_replies.Replies.{answer_reply, fault_reply, put_reply, stamp_reply};
+ghost use Rattle.http_service.specs.http_replies.Replies.{taken_reply};
 ghost use Rattle.program_drills.specs.Drills.{IsEventLine};
 ghost use Rattle.program_drills.specs.Lines.{line_end};
 ghost use Rattle.program_drills.specs.EventReports.{reply_line, message_json, message_line, state_line};

@@ -2,5 +2,5 @@ pub mod Apps
 pub mod Faults
 pub mod Lines
 pub mod inner
--- Specifications of lower crates, re-exported.
+-- of lower layers
 pub use Rattle.stamped_store.specs as stamped_store

@@ -11,4 +11,6 @@ pub use line::{
     CheckOptions, DecideOptions, DrillOptions, ExchangeOptions, ExplainOptions, Line, LoadOptions,
     MergeOptions, PullOptions, ServeOptions, line_of,
 };
+
+// of lower layers
 pub use stamped_store::SiteName;

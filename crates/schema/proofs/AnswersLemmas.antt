@@ -12,7 +12,7 @@ use Rattle.ancestor_search.specs.Hierarchy.{IsAncestor, IsAscending, AreAllAnces
 use Rattle.schema_types.specs.Cedar.{Cedar}
 use Rattle.schema_types.specs.CedarViews.{cedar_view}
 use Rattle.schema_types.specs.declared.cedar.CedarType.{CedarType}
-use Rattle.schema_names.specs.Qualifying.{ResolvedEntityType, ResolvedSchema}
+use Rattle.schema_reading.specs.Qualifying.{ResolvedEntityType, ResolvedSchema}
 use Rattle.schema.specs.declared.parts.EnvironmentKey.{EnvironmentKey}
 use Rattle.schema.specs.declared.parts.Environment.{Environment}
 use Rattle.schema.specs.declared.parts.EntityDecl.{EntityDecl}
@@ -20,8 +20,8 @@ use Rattle.schema.specs.declared.reading.Types.{Types}
 use Rattle.schema.specs.declared.reading.Hierarchies.{Hierarchies}
 use Rattle.sha2.specs.Sha256.{sha256}
 use Rattle.hex.specs.Hex.{encode_lower}
-use Rattle.schema_names.specs.Naming.{DescribesFile}
-use Rattle.schema_names.specs.Laws.{IsEntityType, NamesItsEntityTypes}
+use Rattle.schema_reading.specs.Naming.{DescribesFile}
+use Rattle.schema_reading.specs.Laws.{IsEntityType, NamesItsEntityTypes}
 use Rattle.schema.specs.Schemas.{EnvironmentOf, MatchesDeclarations, IsSound, IsShape, IsAction, IsEnvironment, IsEnvironmentKey}
 use Rattle.schema.specs.Schemas.{IsRecordOf, action_parents, type_parents, type_uid, place_cmp}
 use Rattle.schema.specs.SchemaEntries.{kept}

@@ -21,9 +21,9 @@ use Rattle.schema_types.specs.Qualified.{Qualified}
 use Rattle.schema_types.specs.Cedar.{Cedar, record_of, no_fields}
 use Rattle.schema_types.specs.Law.{TypesExpandOrSomeCommonDoesNot}
 use Rattle.schema_types.specs.declared.fault.SchemaFault.{SchemaFault}
-use Rattle.schema_names.specs.Qualifying.{ResolvedEntityType, ResolvedAppliesTo, ResolvedAction, ResolvedSchema}
-use Rattle.schema_names.specs.Naming.{DescribesFile}
-use Rattle.schema_names.specs.Laws as names
+use Rattle.schema_reading.specs.Qualifying.{ResolvedEntityType, ResolvedAppliesTo, ResolvedAction, ResolvedSchema}
+use Rattle.schema_reading.specs.Naming.{DescribesFile}
+use Rattle.schema_reading.specs.Laws as names
 use Rattle.schema.specs.declared.parts.EnvironmentKey.{EnvironmentKey}
 use Rattle.schema.specs.Schemas as schemas
 use Rattle.schema.specs.Schemas.{EnvironmentOf, StatedSchema, MatchesDeclarations, IsAction, IsEnvironment, IsEnvironmentKey, IsRecordOf}

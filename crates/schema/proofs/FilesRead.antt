@@ -10,7 +10,7 @@ use Rattle.serde_json.specs.Find.{get, as_array}
 use Rattle.json_words.specs.ReadsAs.{◌>>=◌, or_fault, demand}
 use Rattle.json_words.specs.Each.{each_member}
 use Rattle.json_words.specs.Json.{text_at}
-use Rattle.values.specs.extensions.plain.Words.{IsIdent, IsPath, AreIdents, AllAre, IsWord, joined_path, is_letter, is_digit, is_word_byte}
+use Rattle.plain.specs.Words.{IsIdent, IsPath, AreIdents, AllAre, IsWord, joined_path, is_letter, is_digit, is_word_byte}
 use Rattle.values.specs.Paths.{is_path, pieces, is_ident, IdentTestIsExact, PathTestIsExact}
 use Rattle.schema_types.specs.Raw.{Raw}
 use Rattle.schema_types.specs.Forms.{form_named}
@@ -19,8 +19,8 @@ use Rattle.schema_types.specs.Optional.{present, optional, required_text}
 use Rattle.schema_types.specs.TypeShape.{type_of}
 use Rattle.schema_types.specs.declared.fault.SchemaFault.TheVariants.{BadShape}
 use Rattle.schema_types.proofs.NameLemmas.{is_unnamed}
-use Rattle.schema_names.specs.schema_file.FileForm.{EntityTypeOf, AppliesToOf, ActionOf, NamespaceOf, ident, name_of, names_of, names_in, names_at, type_in, optional_name, is_common, common_of, entity_type_name, entity_type_of, parent_of, parents_of, parents_in, applies_to_of, applies_to_in, is_empty_in, action_of, namespace_name, commons_of, entity_types_of, actions_of, commons_in, entity_types_in, actions_in, namespace_of, namespaces_of, stated}
-use Rattle.schema_names.specs.schema_file.declared.stated.StatedParent.{StatedParent}
+use Rattle.schema_reading.specs.FileForm.{EntityTypeOf, AppliesToOf, ActionOf, NamespaceOf, ident, name_of, names_of, names_in, names_at, type_in, optional_name, is_common, common_of, entity_type_name, entity_type_of, parent_of, parents_of, parents_in, applies_to_of, applies_to_in, is_empty_in, action_of, namespace_name, commons_of, entity_types_of, actions_of, commons_in, entity_types_in, actions_in, namespace_of, namespaces_of, stated}
+use Rattle.schema_reading.specs.declared.stated.StatedParent.{StatedParent}
 use Rattle.schema.specs.ObjectKeys.{HasOnly, HasOther, IsAbsent}
 use Rattle.schema.specs.ObjectKeys as keys
 use Rattle.schema.specs.ObjectParts.{GivenAt, NotGivenAt, MaybeAt, ListAt, WrongAt, IsArrayOf, IsNoArrayOf, IsObjectOf, IsNoObjectOf}

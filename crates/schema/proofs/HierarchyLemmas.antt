@@ -6,8 +6,8 @@ use Rattle.values.specs.declared.entity_uid.EntityUid.{EntityUid}
 use Rattle.values.specs.Names.{uid_cmp}
 use Rattle.ancestor_search.specs.Hierarchy.{Parents, Path, IsAncestor, no_parents, with_parents}
 use Rattle.ancestor_search.specs.Deciding.{Contains-here, Contains-there, Contains-cases, Contains-none, same_uid}
-use Rattle.schema_names.specs.Qualifying.{ResolvedEntityType, ResolvedAction, ResolvedSchema}
-use Rattle.schema_names.specs.Laws.{IsEntityType, NamesItsEntityTypes}
+use Rattle.schema_reading.specs.Qualifying.{ResolvedEntityType, ResolvedAction, ResolvedSchema}
+use Rattle.schema_reading.specs.Laws.{IsEntityType, NamesItsEntityTypes}
 use Rattle.schema.specs.Schemas.{type_uid, with_types, with_actions, type_parents}
 
 -- ---- who has parents

@@ -16,24 +16,24 @@ use Rattle.ancestor_search.specs.Deciding.{Contains-here, Contains-there, Contai
 use Rattle.ancestor_search.specs.Deciding.{any_at, same_uid}
 use Rattle.schema_types.specs.Names.{is_qualified, full_name, Scope}
 use Rattle.schema_types.specs.TypeShape.{type_name}
-use Rattle.schema_names.specs.schema_types.Actions.{action_type, action_uid, declared_action, first_of, action_of_type}
+use Rattle.schema_types.specs.Actions.{action_type, action_uid, declared_action, first_of, action_of_type}
 use Rattle.schema_types.specs.declared.fault.SchemaFault.{SchemaFault}
 use Rattle.schema_types.specs.declared.fault.SchemaFault.TheVariants.{BadShape, UnknownName}
 use Rattle.schema_types.specs.Raw.{Raw}
 use Rattle.schema_types.specs.Qualified.{Qualified}
 use Rattle.schema_types.specs.Optional.{optional}
-use Rattle.schema_names.specs.schema_file.declared.stated.StatedParent.{StatedParent}
-use Rattle.schema_names.specs.schema_file.FileForm.{EntityTypeOf, ActionOf, NamespaceOf, members_in, ident}
-use Rattle.schema_names.specs.schema_file.FileForm.{entity_type_name, entity_type_of, names_in, type_in, namespace_name}
-use Rattle.schema_names.specs.schema_file.FileForm.{namespace_of, commons_in, entity_types_in, actions_in}
-use Rattle.schema_names.specs.schema_file.FileForm.{entity_types_of, namespaces_of, stated}
-use Rattle.schema_names.specs.Qualifying.{ResolvedAppliesTo, ResolvedAction, ResolvedEntityType, ResolvedSchema, all_of, scope_in}
-use Rattle.schema_names.specs.Qualifying.{is_action_in, actions_declared, type_named, entity_types_named, applies_to_named}
-use Rattle.schema_names.specs.Qualifying.{action_meant, action_meant_at, parent_named, parents_named}
-use Rattle.schema_names.specs.Qualifying.{qualified_entity_type, qualified_action, qualified_commons}
-use Rattle.schema_names.specs.Qualifying.{qualified_entity_types, qualified_actions, qualified_namespace}
-use Rattle.schema_names.specs.Qualifying.{qualified_namespaces, together, qualified}
-use Rattle.schema_names.specs.Naming.{DescribesFile}
+use Rattle.schema_reading.specs.declared.stated.StatedParent.{StatedParent}
+use Rattle.schema_reading.specs.FileForm.{EntityTypeOf, ActionOf, NamespaceOf, members_in, ident}
+use Rattle.schema_reading.specs.FileForm.{entity_type_name, entity_type_of, names_in, type_in, namespace_name}
+use Rattle.schema_reading.specs.FileForm.{namespace_of, commons_in, entity_types_in, actions_in}
+use Rattle.schema_reading.specs.FileForm.{entity_types_of, namespaces_of, stated}
+use Rattle.schema_reading.specs.Qualifying.{ResolvedAppliesTo, ResolvedAction, ResolvedEntityType, ResolvedSchema, all_of, scope_in}
+use Rattle.schema_reading.specs.Qualifying.{is_action_in, actions_declared, type_named, entity_types_named, applies_to_named}
+use Rattle.schema_reading.specs.Qualifying.{action_meant, action_meant_at, parent_named, parents_named}
+use Rattle.schema_reading.specs.Qualifying.{qualified_entity_type, qualified_action, qualified_commons}
+use Rattle.schema_reading.specs.Qualifying.{qualified_entity_types, qualified_actions, qualified_namespace}
+use Rattle.schema_reading.specs.Qualifying.{qualified_namespaces, together, qualified}
+use Rattle.schema_reading.specs.Naming.{DescribesFile}
 use Rattle.schema.specs.Schemas.{IsAction}
 use Rattle.schema.specs.WellFormed.{IsActionType}
 use Rattle.schema.proofs.HierarchyLemmas.{contains_map}

@@ -19,9 +19,9 @@ use Rattle.schema_types.specs.Names.{Scope, is_qualified, full_name, as_declared
 use Rattle.schema_types.specs.Actions.{action_type, action_uid, declared_action, first_of, action_of_type}
 use Rattle.schema_types.specs.declared.fault.SchemaFault.{SchemaFault}
 use Rattle.schema_types.specs.declared.fault.SchemaFault.TheVariants.{UnknownName}
-use Rattle.schema_names.specs.schema_file.FileForm.{EntityTypeOf, AppliesToOf, ActionOf, NamespaceOf}
-use Rattle.schema_names.specs.schema_file.declared.stated.StatedParent.{StatedParent}
-use Rattle.schema_names.specs.Qualifying.{all_of, CommonOf, common_in, scope_in, is_action_in, ResolvedEntityType, ResolvedAppliesTo, ResolvedAction, ResolvedSchema, entity_type_named, entity_types_named, type_named, action_meant_at, action_meant, parent_named, parents_named, qualified_common, qualified_entity_type, qualified_use, applies_to_named, qualified_action, qualified_commons, qualified_entity_types, qualified_actions, qualified_namespace, qualified_namespaces, together, qualified}
+use Rattle.schema_reading.specs.FileForm.{EntityTypeOf, AppliesToOf, ActionOf, NamespaceOf}
+use Rattle.schema_reading.specs.declared.stated.StatedParent.{StatedParent}
+use Rattle.schema_reading.specs.Qualifying.{all_of, CommonOf, common_in, scope_in, is_action_in, ResolvedEntityType, ResolvedAppliesTo, ResolvedAction, ResolvedSchema, entity_type_named, entity_types_named, type_named, action_meant_at, action_meant, parent_named, parents_named, qualified_common, qualified_entity_type, qualified_use, applies_to_named, qualified_action, qualified_commons, qualified_entity_types, qualified_actions, qualified_namespace, qualified_namespaces, together, qualified}
 use Rattle.schema.specs.NamesResolved.{IsCommon, IsEntityType, IsAction, HasNamespace, Means, MeansNone, MeansAction, IsPrimitive, MeansEither, ResolvesType, ResolvesFields, HasUnknown, SomeFieldHasUnknown, BothOrNeither, ResolvesCommon, ResolvesEntityType, ResolvesAppliesTo, ResolvesAction, ResolvesNamespace, ResolvesFile, AppliesToHasUnknown, EntityTypeHasUnknown, ActionHasUnknown, NamespaceHasUnknown, FileHasUnknown}
 use Rattle.schema.specs.NamesResolved as says
 use Rattle.schema.specs.Laws.{NamesAreResolved, NamesHaveOneOutcome}

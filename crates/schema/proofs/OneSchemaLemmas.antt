@@ -14,10 +14,10 @@ use Rattle.ancestor_search.specs.Deciding.{Contains-here, Contains-there, Contai
 use Rattle.schema_types.specs.Qualified.{Qualified}
 use Rattle.schema_types.specs.Cedar.{Cedar}
 use Rattle.schema_types.specs.Law.{OneWritten}
-use Rattle.schema_names.specs.schema_file.DistinctNames.{AreApart}
-use Rattle.schema_names.specs.Qualifying.{ResolvedEntityType, ResolvedAppliesTo, ResolvedAction, ResolvedSchema}
-use Rattle.schema_names.specs.Laws as names
-use Rattle.schema_names.specs.Laws.{DeclaresOnce}
+use Rattle.schema_reading.specs.DistinctNames.{AreApart}
+use Rattle.schema_reading.specs.Qualifying.{ResolvedEntityType, ResolvedAppliesTo, ResolvedAction, ResolvedSchema}
+use Rattle.schema_reading.specs.Laws as names
+use Rattle.schema_reading.specs.Laws.{DeclaresOnce}
 use Rattle.schema.specs.declared.parts.EnvironmentKey.{EnvironmentKey}
 use Rattle.schema.specs.Schemas.{StatedSchema, EnvironmentOf, MatchesDeclarations, Applies, IsRecordOf, IsEnvironment, IsEnvironmentKey}
 use Rattle.schema.specs.Schemas.{place_cmp}

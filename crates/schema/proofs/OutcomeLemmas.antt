@@ -4,9 +4,9 @@ use Rattle.schema_types.specs.Qualified.{common}
 use Rattle.schema_types.specs.Cedar.{Cedar, IsTooLarge}
 use Rattle.schema_types.specs.Law.{OneWritten}
 use Rattle.schema_types.specs.declared.fault.SchemaFault.{SchemaFault}
-use Rattle.schema_names.specs.Qualifying.{ResolvedSchema}
-use Rattle.schema_names.specs.Laws as names
-use Rattle.schema_names.specs.Laws.{DeclaresOnce}
+use Rattle.schema_reading.specs.Qualifying.{ResolvedSchema}
+use Rattle.schema_reading.specs.Laws as names
+use Rattle.schema_reading.specs.Laws.{DeclaresOnce}
 use Rattle.schema.specs.Schemas as schemas
 use Rattle.schema.specs.Schemas.{StatedSchema, IsSound}
 use Rattle.schema.specs.inner.ByNaming.{IsUnsound, IsParsedAs, IsNotParsed, NotBothParsed, OneNotParsed}

@@ -5,11 +5,11 @@ use Rattle.schema_types.specs.Raw as raw
 use Rattle.schema_types.specs.Raw.{Raw}
 use Rattle.schema_types.specs.Qualified.{Qualified}
 use Rattle.schema_types.specs.Names.{full_name, found, built_in, or_entity}
-use Rattle.schema_names.specs.schema_file.FileForm.{NamespaceOf}
-use Rattle.schema_names.specs.Qualifying.{CommonOf, common_in, commons_declared, scope_in}
-use Rattle.schema_names.specs.Records.{common_meant, is_no_record, MeansNoRecord, HasContext, MustBeRecord, SomeIsNoRecord}
-use Rattle.schema_names.specs.Records as means
-use Rattle.schema_names.proofs.FoundLemmas.{all_of_from, all_of_to, map_from, map_to}
+use Rattle.schema_reading.specs.FileForm.{NamespaceOf}
+use Rattle.schema_reading.specs.Qualifying.{CommonOf, common_in, commons_declared, scope_in}
+use Rattle.schema_reading.specs.Records.{common_meant, is_no_record, MeansNoRecord, HasContext, MustBeRecord, SomeIsNoRecord}
+use Rattle.schema_reading.specs.Records as means
+use Rattle.schema_reading.proofs.FoundLemmas.{all_of_from, all_of_to, map_from, map_to}
 use Rattle.schema.specs.NamesResolved.{IsCommon, IsEntityType, Means, MeansNone}
 use Rattle.schema.specs.NoRecords.{IsNoRecord, SomeIsNotRecord}
 use Rattle.schema.specs.NoRecords as says

@@ -10,11 +10,11 @@ use Rattle.schema_types.specs.Outcome.{SomeHasNoExpansion}
 use Rattle.schema_types.specs.Law.{CyclesHaveNoExpansion, WhatHasNoExpansionLeadsBack}
 use Rattle.schema_types.specs.declared.fault.SchemaFault.{SchemaFault}
 use Rattle.schema_types.specs.declared.fault.SchemaFault.TheVariants.{NotJson, BadShape, UnknownName, TypeCycle, ActionCycle, TypeTooLarge}
-use Rattle.schema_names.specs.schema_file.FileForm.{NamespaceOf, stated}
-use Rattle.schema_names.specs.Qualifying.{ResolvedSchema, qualified}
-use Rattle.schema_names.specs.Naming.{NamesRefused, DescribesFile, IsNamingError}
-use Rattle.schema_names.specs.Naming as naming
-use Rattle.schema_names.specs.Laws.{FilesNameTheirOwn, FilesDeclareOnce}
+use Rattle.schema_reading.specs.FileForm.{NamespaceOf, stated}
+use Rattle.schema_reading.specs.Qualifying.{ResolvedSchema, qualified}
+use Rattle.schema_reading.specs.Naming.{NamesRefused, DescribesFile, IsNamingError}
+use Rattle.schema_reading.specs.Naming as naming
+use Rattle.schema_reading.specs.Laws.{FilesNameTheirOwn, FilesDeclareOnce}
 use Rattle.schema.specs.inner.ByNaming.{IsUnsound, IsParsedAs, IsNotParsed, ParsedOrNot, SomeParsed, OneParsed, NotBothParsed, OneNotParsed, ParsedSchemasAreWellFormed, SchemasAreRead}
 use Rattle.schema.specs.inner.ByNaming as parsed
 use Rattle.schema.specs.Outcomes.{SchemaOrRefusal, SomeOutcome, OneSchema, NotBoth, OneRefusal}

@@ -19,9 +19,9 @@ use Rattle.schema_types.specs.Law.{TypesExpandOrSomeCommonDoesNot}
 use Rattle.schema_types.specs.Outcome.{SomeHasNoExpansion}
 use Rattle.schema_types.specs.declared.fault.SchemaFault.{SchemaFault}
 use Rattle.schema_types.specs.declared.fault.SchemaFault.TheVariants.{TypeCycle, ActionCycle, TypeTooLarge}
-use Rattle.schema_names.specs.Qualifying.{ResolvedEntityType, ResolvedAppliesTo, ResolvedAction, ResolvedSchema}
-use Rattle.schema_names.specs.Laws as names
-use Rattle.schema_names.specs.Laws.{DeclaresOnce, DeclaresItsCommonTypes}
+use Rattle.schema_reading.specs.Qualifying.{ResolvedEntityType, ResolvedAppliesTo, ResolvedAction, ResolvedSchema}
+use Rattle.schema_reading.specs.Laws as names
+use Rattle.schema_reading.specs.Laws.{DeclaresOnce, DeclaresItsCommonTypes}
 use Rattle.schema.specs.Schemas as schemas
 use Rattle.schema.specs.Schemas.{HasSmallExpansion, IsSchemaType, SomeActionIsOnCycle, SomeTypeIsTooLarge, IsSound}
 use Rattle.schema.specs.inner.ByNaming.{IsUnsound}

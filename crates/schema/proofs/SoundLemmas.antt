@@ -5,13 +5,13 @@ use Rattle.schema_types.specs.Qualified.{Qualified}
 use Rattle.schema_types.specs.Cedar.{Cedar}
 use Rattle.schema_types.specs.Expansions as written
 use Rattle.schema_types.specs.Expansions.{Declarations, Declares, IsExpansion}
-use Rattle.schema_written_types.specs.TypeTables.{TypeTable, AreWritten, AreWhole}
+use Rattle.schema_types.specs.TypeTables.{TypeTable, AreWritten, AreWhole}
 use Rattle.schema_types.specs.Outcome.{SomeHasNoExpansion, CommonsRefused, SizesRefused, TypeRefused}
 use Rattle.schema_types.specs.Outcome as outcome
 use Rattle.schema_types.specs.declared.fault.SchemaFault.{SchemaFault}
 use Rattle.schema_types.specs.declared.fault.SchemaFault.TheVariants.{ActionCycle}
-use Rattle.schema_names.specs.Qualifying.{ResolvedSchema}
-use Rattle.schema_names.specs.Laws.{IsShapeOrContext}
+use Rattle.schema_reading.specs.Qualifying.{ResolvedSchema}
+use Rattle.schema_reading.specs.Laws.{IsShapeOrContext}
 use Rattle.schema.specs.Schemas.{SomeActionIsOnCycle, IsSchemaType, HasSmallExpansion, IsSound}
 use Rattle.schema.specs.inner.ByNaming.{IsUnsound}
 use Rattle.schema.specs.inner.ByNaming as parsed

@@ -6,7 +6,7 @@ use Rattle.values.specs.declared.entity_uid.EntityUid.{EntityUid}
 use Rattle.schema_types.specs.CedarViews.{cedar_view}
 use Rattle.schema_types.specs.Expansions.{Declarations}
 use Rattle.schema_types.specs.declared.cedar.CedarType.{CedarType}
-use Rattle.schema_names.specs.Qualifying.{ResolvedAppliesTo, ResolvedAction}
+use Rattle.schema_reading.specs.Qualifying.{ResolvedAppliesTo, ResolvedAction}
 use Rattle.schema.specs.declared.parts.EnvironmentKey.{EnvironmentKey}
 use Rattle.schema.specs.Schemas.{place_cmp, IsRecordOf}
 use Rattle.schema.specs.inner.Filling.{SomeMay, SomeMust, HoldsForEach}

@@ -11,9 +11,9 @@ use Rattle.schema_types.specs.Ascending.{Ascend, KeysAscend}
 use Rattle.schema_types.specs.AscendingLaw.{WrittenTypesAscend}
 use Rattle.schema_types.specs.Law.{OneWritten, WrittenEntitiesAreNamed}
 use Rattle.schema_types.specs.Mentions.{MentionsEntity, NamesEntity}
-use Rattle.schema_names.specs.Qualifying.{ResolvedSchema}
-use Rattle.schema_names.specs.Laws as names
-use Rattle.schema_names.specs.Laws.{IsShapeOrContext, DeclaresOnce, TypesAscend, IsEntityType, NamesItsEntityTypes}
+use Rattle.schema_reading.specs.Qualifying.{ResolvedSchema}
+use Rattle.schema_reading.specs.Laws as names
+use Rattle.schema_reading.specs.Laws.{IsShapeOrContext, DeclaresOnce, TypesAscend, IsEntityType, NamesItsEntityTypes}
 use Rattle.schema.specs.Schemas.{StatedSchema, MatchesDeclarations, IsAction, IsRecordOf, IsSound, shape_or_context, action_parents}
 use Rattle.schema.specs.Schemas.{type_parents, type_uid}
 use Rattle.schema.proofs.HierarchyLemmas.{last_edge, action_edge, above_declared, below_declared}

@@ -7,7 +7,7 @@ use Rattle.serde_json.specs.Data.{Data}
 use Rattle.serde_json.specs.Find.{get, as_str}
 use Rattle.json_words.specs.ReadsAs.{◌>>=◌, or_fault}
 use Rattle.json_words.specs.Json.{text_at}
-use Rattle.values.specs.extensions.plain.Words.{IsPath, is_letter, is_word_byte}
+use Rattle.plain.specs.Words.{IsPath, is_letter, is_word_byte}
 use Rattle.values.specs.Paths.{is_path, pieces, PathTestIsExact}
 use Rattle.schema_types.specs.Raw as raw
 use Rattle.schema_types.specs.Raw.{Raw}

@@ -3,9 +3,9 @@
 use Rattle.std.specs.Prelude.{◌↔◌, ℕ, List, Bool}
 use Rattle.serde_json.specs.Data.{Data}
 use Rattle.schema_types.specs.TypeShape.{type_of}
-use Rattle.schema_names.specs.schema_file.FileForm.{NamespaceOf, stated}
-use Rattle.schema_names.specs.Qualifying.{ResolvedSchema, qualified}
-use Rattle.schema_names.specs.Naming.{DescribesFile}
+use Rattle.schema_reading.specs.FileForm.{NamespaceOf, stated}
+use Rattle.schema_reading.specs.Qualifying.{ResolvedSchema, qualified}
+use Rattle.schema_reading.specs.Naming.{DescribesFile}
 use Rattle.schema.specs.Agreement.{Gives, HasOneOutcome}
 use Rattle.schema.specs.StatedTypes.{StatesType, RefusesType}
 use Rattle.schema.specs.StatedFiles.{DescribesNamespaces, RefusesFile}

@@ -16,7 +16,5 @@ pub mod Laws
 pub mod Views
 pub mod WellFormed
 pub mod inner
--- Specifications of lower crates, re-exported.
-pub use Rattle.ancestor_search.specs as ancestor_search
-pub use Rattle.schema_names.specs as schema_names
-pub use Rattle.schema_names.specs.schema_file
+-- of this layer
+pub use Rattle.schema_reading.specs as schema_reading

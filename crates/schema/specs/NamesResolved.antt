@@ -19,10 +19,10 @@ use Rattle.schema_types.specs.Names.{full_name}
 use Rattle.schema_types.specs.Actions.{action_type, action_uid}
 use Rattle.schema_types.specs.declared.fault.SchemaFault.{SchemaFault}
 use Rattle.schema_types.specs.declared.fault.SchemaFault.TheVariants.{UnknownName}
-use Rattle.schema_names.specs.schema_file.FileForm.{EntityTypeOf, AppliesToOf, ActionOf, NamespaceOf}
-use Rattle.schema_names.specs.schema_file.declared.stated.StatedParent.{StatedParent}
-use Rattle.schema_names.specs.Qualifying.{ResolvedEntityType, ResolvedAppliesTo, ResolvedAction, ResolvedSchema}
-use Rattle.schema_names.specs.Qualifying.{together}
+use Rattle.schema_reading.specs.FileForm.{EntityTypeOf, AppliesToOf, ActionOf, NamespaceOf}
+use Rattle.schema_reading.specs.declared.stated.StatedParent.{StatedParent}
+use Rattle.schema_reading.specs.Qualifying.{ResolvedEntityType, ResolvedAppliesTo, ResolvedAction, ResolvedSchema}
+use Rattle.schema_reading.specs.Qualifying.{together}
 
 -- ---- declarations
 

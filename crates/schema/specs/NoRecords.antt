@@ -6,7 +6,7 @@ use Rattle.schema_types.specs.Raw as raw
 use Rattle.schema_types.specs.Raw.{Raw}
 use Rattle.schema_types.specs.Qualified.{Qualified}
 use Rattle.schema_types.specs.Names.{full_name}
-use Rattle.schema_names.specs.schema_file.FileForm.{EntityTypeOf, AppliesToOf, ActionOf, NamespaceOf}
+use Rattle.schema_reading.specs.FileForm.{EntityTypeOf, AppliesToOf, ActionOf, NamespaceOf}
 use Rattle.schema.specs.NamesResolved.{IsCommon, IsEntityType, Means, MeansNone, IsPrimitive}
 
 -- `IsNoRecord ns own r` holds if the type `r`, of the namespace `own`, is not a record: it has another form, or it is a

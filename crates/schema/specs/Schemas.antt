@@ -21,9 +21,9 @@ use Rattle.schema_types.specs.Mentions.{Leads}
 use Rattle.schema_types.specs.declared.fault.SchemaFault.{SchemaFault}
 use Rattle.schema_types.specs.declared.fault.SchemaFault.TheVariants.{NotJson, BadShape, UnknownName, TypeCycle}
 use Rattle.schema_types.specs.declared.fault.SchemaFault.TheVariants.{ActionCycle, TypeTooLarge}
-use Rattle.schema_names.specs.schema_file.FileForm.{NamespaceOf}
-use Rattle.schema_names.specs.Qualifying.{ResolvedEntityType, ResolvedAppliesTo, ResolvedAction, ResolvedSchema}
-use Rattle.schema_names.specs.Laws.{IsShapeOrContext}
+use Rattle.schema_reading.specs.FileForm.{NamespaceOf}
+use Rattle.schema_reading.specs.Qualifying.{ResolvedEntityType, ResolvedAppliesTo, ResolvedAction, ResolvedSchema}
+use Rattle.schema_reading.specs.Laws.{IsShapeOrContext}
 use Rattle.schema.specs.declared.parts.EnvironmentKey.{EnvironmentKey}
 use Rattle.schema.specs.StatedFiles.{DescribesNamespaces, IsNoFile}
 use Rattle.schema.specs.NamesResolved.{ResolvesFile, FileHasUnknown}
@@ -187,7 +187,7 @@ pub record HasDeclarations (bytes : List ℕ) (s : ResolvedSchema) : Type 0 wher
 -- `IsSchemaOf bytes v` holds if `bytes` describe the schema `v`. The bytes are a schema file (`HasDeclarations`) where
 -- no action is its own ancestor and each type has an expansion within the limits. `v` has the label of `bytes`, and
 -- its lists and look-ups have what the file declares. The theorems `declarations_are_read_as_stated` and, in
--- `schema_names`, `files_are_in_order` prove that the file declares no common type, entity type or action twice.
+-- `schema_reading`, `files_are_in_order` prove that the file declares no common type, entity type or action twice.
 pub record IsSchemaOf (bytes : List ℕ) (v : StatedSchema) : Type 0 where
   pub named : ResolvedSchema
   pub states : HasDeclarations bytes named

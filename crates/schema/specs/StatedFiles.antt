@@ -8,12 +8,12 @@ use Rattle.std.specs.Prelude.{◌≡◌, ℕ, List, [], ◌∷◌, Option, Some,
 use Rattle.serde_json.specs.Data.{Data, string, object, no_members}
 use Rattle.serde_json.specs.Find.{get}
 use Rattle.json_words.specs.Json.{text_at}
-use Rattle.values.specs.extensions.plain.Words.{IsIdent, IsPath}
+use Rattle.plain.specs.Words.{IsIdent, IsPath}
 use Rattle.schema_types.specs.Raw.{Raw}
 use Rattle.schema_types.specs.declared.fault.SchemaFault.{SchemaFault}
 use Rattle.schema_types.specs.declared.fault.SchemaFault.TheVariants.{BadShape}
-use Rattle.schema_names.specs.schema_file.FileForm.{EntityTypeOf, AppliesToOf, ActionOf, NamespaceOf}
-use Rattle.schema_names.specs.schema_file.declared.stated.StatedParent.{StatedParent}
+use Rattle.schema_reading.specs.FileForm.{EntityTypeOf, AppliesToOf, ActionOf, NamespaceOf}
+use Rattle.schema_reading.specs.declared.stated.StatedParent.{StatedParent}
 use Rattle.schema.specs.ObjectKeys.{HasOnly, HasOther, IsAbsent}
 use Rattle.schema.specs.ObjectParts.{GivenAt, NotGivenAt, MaybeAt, ListAt, WrongAt, IsArrayOf, IsNoArrayOf}
 use Rattle.schema.specs.ObjectParts.{IsObjectOf, IsNoObjectOf}

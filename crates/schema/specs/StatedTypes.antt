@@ -9,7 +9,7 @@ use Rattle.serde_json.specs.Data as json
 use Rattle.serde_json.specs.Data.{Data, object, Members, no_members, member}
 use Rattle.serde_json.specs.Find.{get}
 use Rattle.json_words.specs.Json.{text_at}
-use Rattle.values.specs.extensions.plain.Words.{IsPath}
+use Rattle.plain.specs.Words.{IsPath}
 use Rattle.schema_types.specs.Raw as raw
 use Rattle.schema_types.specs.Raw.{Raw, RawFields}
 use Rattle.schema_types.specs.declared.fault.SchemaFault.{SchemaFault}

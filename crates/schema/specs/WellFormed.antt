@@ -6,7 +6,7 @@ use Rattle.ancestor_search.specs.Hierarchy.{IsAscending}
 use Rattle.schema_types.specs.Cedar.{Cedar, CedarFields, record_of, IsTooLarge}
 use Rattle.schema_types.specs.Mentions.{NamesEntity}
 use Rattle.schema_types.specs.Ascending.{KeysAscend}
-use Rattle.schema_names.specs.schema_types.Actions.{action_type}
+use Rattle.schema_types.specs.Actions.{action_type}
 use Rattle.schema.specs.Schemas.{EnvironmentOf, StatedSchema, IsSchemaOf, place_cmp}
 
 -- `AreAttributes t` holds if `t` has the form of an entity type's attributes or of a context: a record within the

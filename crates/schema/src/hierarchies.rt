@@ -3,14 +3,14 @@ ghost use Rattle.std.specs.Prelude.{◌≡◌, IfOk, OnOk, map};
 ghost use Rattle.std.specs.BTreeMap.{keys};
 ghost use Rattle.ancestor_search.specs.Hierarchy.{IsAscending, referenced, no_parents, with_parents};
 ghost use Rattle.ancestor_search.specs.contracts.searched.SearchedAncestry.TheImpl as searched;
-ghost use Rattle.schema_names.specs.ResolvedViews.{resolved_action_view, resolved_entity_type_view};
+ghost use Rattle.schema_reading.specs.ResolvedViews.{resolved_action_view, resolved_entity_type_view};
 ghost use Rattle.schema.specs.Schemas.{with_actions, with_types, type_uid};
 ghost use Rattle.schema.specs.inner.Making.{AddsMember, AreMembers};
 
 use crate::maps::put;
 use ancestor_search::{Hierarchy, ParentsOf, Searched};
 use plain::{Items, NoMemory};
-use schema_names::{ResolvedAction, ResolvedEntityType};
+use schema_reading::{ResolvedAction, ResolvedEntityType};
 use std::alloc::Global;
 use std::collections::BTreeMap;
 use values::{EntityUid, SharedText, TypeName};

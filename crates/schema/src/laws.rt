@@ -6,7 +6,7 @@ ghost use Rattle.schema.specs.Outcomes.{OneSchema, NotBoth, OneRefusal, SomeOutc
 ghost use Rattle.schema.specs.WellFormed.{StatedSchemasAreWellFormed};
 
 use ancestor_search::laws::{ascending_lists_are_one, paths_are_decided};
-use schema_names::{
+use schema_reading::{
     files_are_in_order, files_name_their_entity_types, files_name_their_own, not_both, one_file,
     one_refusal, shapes_are_records, some_outcome,
 };

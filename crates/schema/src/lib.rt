@@ -29,5 +29,7 @@ pub use listed_environments::{environments_in_order, make_place};
 pub use lookups::{action_has_ancestor, may_have_parent, parents_at};
 pub use parts::{EntityDecl, Environment, EnvironmentKey};
 pub use reading::read_schema;
-pub use schema_types::{CedarType, SchemaFault};
 pub use spans::{NumberSpan, has_number, joined};
+
+// of this layer
+pub use schema_types::{CedarType, SchemaFault};

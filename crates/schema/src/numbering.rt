@@ -19,7 +19,7 @@ use crate::maps::put;
 use crate::spans::{NumberSpan, joined};
 use ancestor_search::{Ancestry, ParentsOf, Searched};
 use plain::{Items, NoMemory};
-use schema_written_types::successors_first;
+use schema_types::successors_first;
 use std::alloc::Global;
 use std::collections::BTreeMap;
 use values::EntityUid;

@@ -2,12 +2,12 @@
 ghost use Rattle.std.specs.Prelude.{◌≢◌, IfOk, MatchResult};
 ghost use Rattle.ancestor_search.specs.contracts.searched.SearchedAncestry.TheImpl as searched;
 ghost use Rattle.schema_types.specs.Expansions.{Declarations};
-ghost use Rattle.schema_written_types.specs.TypeTables.{AreWritten, AreWhole};
-ghost use Rattle.schema_written_types.specs.TableViews.{type_table};
+ghost use Rattle.schema_types.specs.TypeTables.{AreWritten, AreWhole};
+ghost use Rattle.schema_types.specs.TableViews.{type_table};
 ghost use Rattle.schema_types.specs.declared.fault.SchemaFault.TheVariants as SchemaFault;
-ghost use Rattle.schema_names.specs.ResolvedViews.{resolved_view};
-ghost use Rattle.schema_names.specs.Laws.{DeclaresItsCommonTypes};
-ghost use Rattle.schema_names.specs.Naming.{DescribesFile};
+ghost use Rattle.schema_reading.specs.ResolvedViews.{resolved_view};
+ghost use Rattle.schema_reading.specs.Laws.{DeclaresItsCommonTypes};
+ghost use Rattle.schema_reading.specs.Naming.{DescribesFile};
 ghost use Rattle.schema.specs.Schemas.{IsSchemaOf, RefusedFor};
 ghost use Rattle.schema.specs.inner.ByNaming.{IsUnsound};
 ghost use Rattle.schema.specs.Views.{schema_view};
@@ -27,9 +27,10 @@ use crate::shapes::make_shapes;
 use crate::type_numbers::{TypeNumbers, number_types};
 use ancestor_search::Searched;
 use plain::{Items, NoMemory};
-use schema_names::{ResolvedFile, files_name_their_entity_types, files_name_their_own, read_named};
-use schema_types::SchemaFault;
-use schema_written_types::{Table, demand_sizes, write_commons};
+use schema_reading::{
+    ResolvedFile, files_name_their_entity_types, files_name_their_own, read_named,
+};
+use schema_types::{SchemaFault, Table, demand_sizes, write_commons};
 use std::alloc::Global;
 use std::collections::BTreeMap;
 use values::{EntityUid, TypeName};

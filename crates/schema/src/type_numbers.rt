@@ -3,7 +3,7 @@ ghost use Rattle.std.specs.Prelude.{◌≡◌, Some, IfOk, OnOk, map};
 ghost use Rattle.std.specs.BTreeMap.{get, Updates};
 ghost use Rattle.values.specs.Names.{uid_cmp, text_cmp};
 ghost use Rattle.ancestor_search.specs.contracts.searched.SearchedAncestry.TheImpl as searched;
-ghost use Rattle.schema_names.specs.ResolvedViews.{resolved_entity_type_view};
+ghost use Rattle.schema_reading.specs.ResolvedViews.{resolved_entity_type_view};
 ghost use Rattle.schema.specs.inner.Numbering.{AddsName, AreNames, type_points, AreNumbers};
 
 use crate::hierarchies::type_uid;
@@ -12,7 +12,7 @@ use crate::numbering::ancestors_of_each;
 use crate::spans::NumberSpan;
 use ancestor_search::Searched;
 use plain::{Items, NoMemory};
-use schema_names::ResolvedEntityType;
+use schema_reading::ResolvedEntityType;
 use std::alloc::Global;
 use std::collections::BTreeMap;
 use values::{EntityUid, TypeName};

@@ -5,7 +5,7 @@ use Rattle.std.proofs.lemmas.List.{drop_all}
 use Rattle.std.proofs.lemmas.List.Elements.{All-nil, All-cons}
 use Rattle.std.specs.declared.alloc.Global.{Global}
 use Rattle.std.specs.declared.string.String.{String}
-use Rattle.entity_hierarchy.specs.policy_grammar.declared.policy.Policy.{Policy}
+use Rattle.decision_texts.specs.policy_grammar.declared.policy.Policy.{Policy}
 use Rattle.entity_hierarchy.specs.schema.Schemas.{StatedSchema}
 use Rattle.validator.specs.Passing.{Passes}
 use Rattle.decision_texts.specs.answer_lines.declared.refusal.Refusal.{Refusal}

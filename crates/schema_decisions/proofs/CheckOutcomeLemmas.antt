@@ -5,8 +5,8 @@ use Rattle.decision_texts.specs.policy_grammar.declared.policy.Policy.{Policy}
 use Rattle.decision_texts.specs.policy_grammar.PolicyText.{IsFileRefused}
 use Rattle.decision_texts.specs.policy_grammar.Unique.{HasOneReading, IsFileOf}
 use Rattle.decision_texts.specs.authoriser.Answers.{NamedPolicy}
-use Rattle.validator.specs.schema.Schemas.{StatedSchema, IsSchemaOf}
-use Rattle.validator.specs.schema.Outcomes as schemas
+use Rattle.entity_hierarchy.specs.schema.Schemas.{StatedSchema, IsSchemaOf}
+use Rattle.entity_hierarchy.specs.schema.Outcomes as schemas
 use Rattle.decision_texts.specs.answer_lines.declared.refusal.Refusal.{Refusal}
 use Rattle.decision_texts.specs.Decisions.{refusal_by, named_policies}
 use Rattle.decision_texts.proofs.PolicyTexts.{PoliciesOrNone, policies_or_none, file_or_fault, fault_same}

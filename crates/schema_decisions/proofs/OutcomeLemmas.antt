@@ -1,7 +1,7 @@
 -- Four texts have one outcome.
 use Rattle.std.proofs.Common.{◌∙◌, ◌⊎◌, ℕ, List, inl, inr, refl, sym, ap, subst}
-use Rattle.entity_hierarchy.specs.authoriser.Answers.{IsAnswer}
-use Rattle.entity_hierarchy.specs.authoriser.Laws.{ListsAscend}
+use Rattle.decision_texts.specs.authoriser.Answers.{IsAnswer}
+use Rattle.decision_texts.specs.authoriser.Laws.{ListsAscend}
 use Rattle.entity_hierarchy.specs.evaluator.Operators.{Entities}
 use Rattle.entity_hierarchy.specs.schema.Schemas.{StatedSchema, IsSchemaOf}
 use Rattle.entity_hierarchy.specs.schema.Outcomes as schemas

@@ -5,7 +5,7 @@ use Rattle.std.proofs.Common.{String, Global, string_bytes}
 use Rattle.std.specs.List.{AllZip, list_any, join_with_byte}
 use Rattle.std.proofs.lemmas.List.{take_more, append_assoc}
 use Rattle.decision_texts.specs.policy_grammar.declared.policy.Policy.{Policy}
-use Rattle.validator.specs.schema.Schemas.{StatedSchema, IsSchemaOf}
+use Rattle.entity_hierarchy.specs.schema.Schemas.{StatedSchema, IsSchemaOf}
 use Rattle.decision_texts.specs.authoriser.Answers.{NamedPolicy}
 use Rattle.decision_texts.specs.Decisions.{named_policies, ArePoliciesOf}
 use Rattle.validator.specs.Outcomes.{CheckResult, IsCheckResult}

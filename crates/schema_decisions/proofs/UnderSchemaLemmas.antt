@@ -4,7 +4,7 @@ use Rattle.std.specs.Prelude.{All}
 use Rattle.std.proofs.lemmas.List.Elements.{All-nil, All-cons, All-head, All-tail}
 use Rattle.serde_json.specs.Data.{Data}
 use Rattle.values.specs.declared.request.Request.{Request}
-use Rattle.entity_hierarchy.specs.policy_grammar.declared.policy.Policy.{Policy}
+use Rattle.decision_texts.specs.policy_grammar.declared.policy.Policy.{Policy}
 use Rattle.entity_hierarchy.specs.schema.Schemas.{StatedSchema, IsSchemaOf}
 use Rattle.entity_hierarchy.specs.entities.declared.fault.EntityFault.{EntityFault}
 use Rattle.entity_hierarchy.specs.entities.Requests.{ParsesRequest, RequestRefused}

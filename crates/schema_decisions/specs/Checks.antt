@@ -8,7 +8,7 @@ use Rattle.std.specs.List.{AllZip, list_any, join_with_byte}
 use Rattle.decision_texts.specs.policy_grammar.declared.policy.Policy.{Policy}
 use Rattle.decision_texts.specs.authoriser.Answers.{NamedPolicy}
 use Rattle.validator.specs.schema_types.declared.fault.SchemaFault.{SchemaFault}
-use Rattle.validator.specs.schema.Schemas.{StatedSchema, IsSchemaOf, RefusedFor}
+use Rattle.entity_hierarchy.specs.schema.Schemas.{StatedSchema, IsSchemaOf, RefusedFor}
 use Rattle.decision_texts.specs.answer_lines.declared.refusal.Refusal.{Refusal}
 use Rattle.decision_texts.specs.Decisions.{ArePoliciesOf, ArePoliciesRefused, named_policies}
 use Rattle.validator.specs.Outcomes.{CheckResult, IsCheckResult}

@@ -9,13 +9,12 @@ pub mod UnderSchema
 pub mod Decisions
 pub mod Outcomes
 pub mod StatedDecisions
--- Specifications of lower crates, re-exported.
+-- of this layer
 pub use Rattle.decision_texts.specs as decision_texts
 pub use Rattle.decision_texts.specs.answer_lines
+-- of lower layers
 pub use Rattle.decision_texts.specs.entity_data
-pub use Rattle.decision_texts.specs.json_words
 pub use Rattle.decision_texts.specs.policy_grammar
-pub use Rattle.decision_texts.specs.entity_uids
 pub use Rattle.validator.specs as validator
 pub use Rattle.validator.specs.schema
 pub use Rattle.validator.specs.schema_types

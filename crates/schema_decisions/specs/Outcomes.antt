@@ -2,7 +2,7 @@
 -- outcome, a line or an error, and the line's ids ascend.
 -- Rules of this product: the outcome follows from the texts alone, except that any call may return `NoMemory` instead.
 use Rattle.std.specs.Prelude.{◌≡◌, ◌⊎◌, ℕ, List, map}
-use Rattle.entity_hierarchy.specs.authoriser.Laws.{AreIdsAscending}
+use Rattle.decision_texts.specs.authoriser.Laws.{AreIdsAscending}
 use Rattle.entity_hierarchy.specs.Laws.{stated_world}
 use Rattle.decision_texts.specs.answer_lines.declared.refusal.Refusal.{Refusal}
 use Rattle.decision_texts.specs.Decisions.{named_policies, stated, IsAnswerTo}

@@ -2,7 +2,7 @@
 -- Source: Cedar reference guide 4.0, "Policy validation".
 -- Rules of this product: policies are checked in the order of the file.
 use Rattle.std.specs.Prelude.{◌≡◌, ℕ, suc, List, ◌∷◌}
-use Rattle.entity_hierarchy.specs.policy_grammar.declared.policy.Policy.{Policy}
+use Rattle.decision_texts.specs.policy_grammar.declared.policy.Policy.{Policy}
 use Rattle.entity_hierarchy.specs.schema.Schemas.{StatedSchema}
 use Rattle.validator.specs.declared.fault.TypeFault.{TypeFault}
 use Rattle.validator.specs.Passing.{Passes, IsCheckRefused}

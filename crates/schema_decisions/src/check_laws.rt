@@ -2,7 +2,8 @@
 ghost use Rattle.schema_decisions.specs.CheckOutcomes.{TextsHaveOneOutcome};
 
 use decision_texts::texts_have_one_reading;
-use validator::{bytes_have_one_outcome, policies_have_one_outcome};
+use entity_hierarchy::bytes_have_one_outcome;
+use validator::policies_have_one_outcome;
 
 /// Proves that the texts of a schema and of policies have exactly one outcome: the lines and whether any of them is of
 /// a rejected policy, or one error. No-op.

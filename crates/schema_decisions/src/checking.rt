@@ -1,6 +1,6 @@
 //! Checks of policies under a schema, from bytes to lines.
 ghost use Rattle.std.specs.Prelude.{◌≡◌, ◌||◌, IfOk, IfErr};
-ghost use Rattle.validator.specs.schema.Views.{schema_view};
+ghost use Rattle.entity_hierarchy.specs.schema.Views.{schema_view};
 ghost use Rattle.decision_texts.specs.answer_lines.Refusals.{no_memory};
 ghost use Rattle.decision_texts.specs.Decisions.{ArePoliciesRefused};
 ghost use Rattle.validator.specs.Outcomes.{IsCheckResult};

@@ -3,10 +3,10 @@ ghost use Rattle.schema_decisions.specs.Outcomes.{OneLine, NotBoth, OneRefusal, 
 ghost use Rattle.schema_decisions.specs.Outcomes.{ListsOfLinesAscend, MemberOfDecidesAlike};
 ghost use Rattle.schema_decisions.specs.StatedDecisions.{DecisionsAreAsStated};
 
+use decision_texts::texts_have_one_reading;
 use entity_hierarchy::{
     actions_may_be_closed, answers_are_lawful, bytes_have_one_outcome, entities_are_read_as_stated,
     file_names_differ, requests_are_read_as_stated, requests_have_one_outcome,
-    texts_have_one_reading,
 };
 use validator::policies_have_one_outcome;
 

@@ -17,12 +17,14 @@ pub use check_laws::checks_have_one_outcome;
 pub use check_refusals::{check_refusal, schema_refusal};
 pub use checking::check_texts;
 pub use deciding::decide_under;
-pub use decision_texts::{
-    Answer, ArrayMembers, Member, Policy, Refusal, Scratch, answer_line, check_entities,
-    decide_texts, members_of, policies_of_file, read_uid,
-};
 pub use dropping::{drop_policies, drop_schema};
 pub use laws::{decisions_are_as_stated, texts_have_one_outcome};
 pub use reading::schema_in;
 pub use under_schema::UnderSchema;
+
+// of this layer
+pub use decision_texts::{Refusal, answer_line, check_entities, decide_texts, policies_of_file};
+
+// of lower layers
+pub use decision_texts::{Answer, Policy};
 pub use validator::Schema;

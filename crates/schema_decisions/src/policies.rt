@@ -8,9 +8,8 @@ ghost use Rattle.schema_decisions.specs.Policies.{IsUnpassed, FirstUnpassed};
 
 use crate::check_refusals::check_refusal;
 use decision_texts::{Policy, Refusal};
-use entity_hierarchy::Schema;
 use std::alloc::Global;
-use validator::check;
+use validator::{Schema, check};
 
 /// Checks that the policy at the index `place` of its file passes validation. The error of a policy that does not pass
 /// has this index as its place.

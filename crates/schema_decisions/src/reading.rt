@@ -1,7 +1,7 @@
 //! The parsing of a schema's text.
 ghost use Rattle.std.specs.Prelude.{◌≡◌, IfOk, IfErr};
-ghost use Rattle.validator.specs.schema.Schemas.{IsSchemaOf};
-ghost use Rattle.validator.specs.schema.Views.{schema_view};
+ghost use Rattle.entity_hierarchy.specs.schema.Schemas.{IsSchemaOf};
+ghost use Rattle.entity_hierarchy.specs.schema.Views.{schema_view};
 ghost use Rattle.decision_texts.specs.answer_lines.Refusals.{no_memory};
 ghost use Rattle.schema_decisions.specs.Checks.{IsSchemaRefused};
 

@@ -14,9 +14,10 @@ ghost use Rattle.schema_decisions.specs.UnderSchema.{IsRequestFault, reading_und
 use crate::policies::check_each;
 use crate::refusal::entity_refusal;
 use decision_texts::{Policy, Refusal, Setting};
-use entity_hierarchy::{Entity, Schema, SchemaActions, read_entity, read_request};
+use entity_hierarchy::{Entity, SchemaActions, read_entity, read_request};
 use serde_json::Value;
 use std::alloc::Global;
+use validator::Schema;
 use values::Request;
 
 /// Returns the entity that a JSON value describes, or the value's first error.

@@ -18,3 +18,6 @@ pub mod Expansions
 pub mod inner
 pub mod Actions
 pub mod NamesViews
+pub mod Orders
+pub mod TypeTables
+pub mod TableViews

@@ -5,7 +5,7 @@ ghost use Rattle.json_words.specs.ReadsAs.{AlwaysReadsAs};
 ghost use Rattle.schema_types.specs.Optional.{optional as optional_of, required_text as text_of, truth_or as truth_of};
 ghost use Rattle.schema_types.specs.Optional.{closed_in};
 
-use crate::SchemaFault;
+use crate::fault::SchemaFault;
 use serde_json::Value;
 
 /// Returns the value at a key; `None` if it is absent or null.

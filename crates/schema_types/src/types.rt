@@ -9,9 +9,11 @@ ghost use Rattle.schema_types.specs.TypeShape.{name_in, reserved_type, entity_or
 ghost use Rattle.schema_types.specs.TypeShape.{extension_named as extension_of};
 ghost use Rattle.schema_types.specs.declared.fault.SchemaFault.TheVariants as SchemaFault;
 
+use crate::Form;
+use crate::fault::SchemaFault;
 use crate::forms::{form_named, has_keys_of};
 use crate::keys::{demand_closed, optional, required_text, truth_or};
-use crate::{Form, RawType, SchemaFault};
+use crate::raw::RawType;
 use serde_json::{Map, Value};
 use std::alloc::Global;
 use values::{TypeName, path_tests_are_exact};

@@ -12,6 +12,8 @@ mod index;
 mod scope_key;
 
 pub use index::ScopeIndex;
+
+// of lower layers
 pub use policy_grammar::{
     ActionScope, Effect, EntityScope, MOST_ID_BYTES, Policy, ReadFault, Scope, file_names_differ,
     parse_policy, texts_have_one_reading,

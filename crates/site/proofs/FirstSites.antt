@@ -2,7 +2,7 @@
 use Rattle.std.specs.Prelude.{◌≡◌, ◌<◌, ◌⊎◌, ◌∷◌, ◌++◌, [], ℕ, zero, suc, List, length, slice_get, Some, refl}
 use Rattle.std.proofs.Common.{sym, ap, ◌∙◌, subst, arith, inl, inr}
 use Rattle.std.proofs.lemmas.List.{length-append}
-use Rattle.site_steps.specs.stamped_store.SiteNames.{IsSiteName, SiteDigitsAreNames, five_digits}
+use Rattle.site_store.specs.stamped_store.SiteNames.{IsSiteName, SiteDigitsAreNames, five_digits}
 use Rattle.site.specs.Sites.{SiteName, AreSites, first_sites}
 
 -- an item of the list is one of the list before, or the last

@@ -2,18 +2,18 @@
 use Rattle.std.proofs.Common.{◌≡◌, ◌∙◌, ℕ, List, [], ◌∷◌, ◌++◌, Option, Some, None, Result, Ok, Err, refl, sym, ap}
 use Rattle.std.proofs.Common.{subst}
 use Rattle.std.specs.Prelude.{length, option_map, slice_get}
-use Rattle.site_steps.specs.schema.Schemas.{StatedSchema}
-use Rattle.site_steps.specs.stamped_store.Deltas as deltas
-use Rattle.site_steps.specs.stamped_store.Store.{Store, store_of, updates}
-use Rattle.site_steps.specs.message_format.Summaries.{summary_text, summary_stated}
-use Rattle.site_steps.specs.message_format.Messages.{state_text, delta_text}
-use Rattle.site_steps.specs.declared.fault.SiteFault.{SiteFault}
-use Rattle.site_steps.specs.Readings.{parsed}
-use Rattle.site_steps.specs.Inputs.{Input}
-use Rattle.site_steps.specs.Inputs as input
-use Rattle.site_steps.specs.declared.reply.Reply.{Reply}
-use Rattle.site_steps.specs.declared.reply.Reply.TheVariants as reply
-use Rattle.site_steps.specs.Runs.{Step, Run, took, Writes, WritesDelta}
+use Rattle.site_store.specs.schema.Schemas.{StatedSchema}
+use Rattle.site_store.specs.stamped_store.Deltas as deltas
+use Rattle.site_store.specs.stamped_store.Store.{Store, store_of, updates}
+use Rattle.sync_messages.specs.sync_format.Summaries.{summary_text, summary_stated}
+use Rattle.sync_messages.specs.sync_format.Messages.{state_text, delta_text}
+use Rattle.site.specs.declared.fault.SiteFault.{SiteFault}
+use Rattle.site.specs.Readings.{parsed}
+use Rattle.site.specs.Inputs.{Input}
+use Rattle.site.specs.Inputs as input
+use Rattle.site.specs.declared.reply.Reply.{Reply}
+use Rattle.site.specs.declared.reply.Reply.TheVariants as reply
+use Rattle.site.specs.Runs.{Step, Run, took, Writes, WritesDelta}
 use Rattle.site.specs.declared.event.Operation.{Operation}
 use Rattle.site.specs.declared.event.Operation.TheVariants as operation
 use Rattle.site.specs.declared.event.Event.{Event}

@@ -10,16 +10,16 @@ use Rattle.std.specs.Ordering.{is_eq, is_lt, ordering_reverse}
 use Rattle.std.specs.declared.cmp.Ordering.{Ordering}
 use Rattle.std.specs.declared.cmp.Ordering.TheVariants.{Less, Equal, Greater}
 use Rattle.std.proofs.lemmas.List.Elements.{Contains-append_cases}
-use Rattle.site_steps.proofs.of_stamped_store.GreatestsBy.{by_place}
+use Rattle.site_store.proofs.of_stamped_store.GreatestsBy.{by_place}
 use Rattle.values.specs.declared.name.Name.{Name}
 use Rattle.values.specs.Names.{name_cmp, name_cmp-IsTotalOrder}
-use Rattle.site_steps.specs.stamped_store.EntryOrder.{PlainEntry, entry_cmp, greater_entry}
-use Rattle.site_steps.specs.stamped_store.Greatest.{IsGreatestAt, greatest_count}
-use Rattle.site_steps.specs.stamped_store.Joins.{option_below}
-use Rattle.site_steps.specs.stamped_store.Store.{Store, Update, updates, store_of, IsStoreOf, plain_below, IsStoreBelow}
-use Rattle.site_steps.specs.stamped_store.Store.{issue, issued}
-use Rattle.site_steps.proofs.of_stamped_store.Greatests.{greater_entry_is_join, count_le}
-use Rattle.site_steps.proofs.of_stamped_store.Lifted.{itself, chains}
+use Rattle.site_store.specs.stamped_store.EntryOrder.{PlainEntry, entry_cmp, greater_entry}
+use Rattle.site_store.specs.stamped_store.Greatest.{IsGreatestAt, greatest_count}
+use Rattle.site_store.specs.stamped_store.Joins.{option_below}
+use Rattle.site_store.specs.stamped_store.Store.{Store, Update, updates, store_of, IsStoreOf, plain_below, IsStoreBelow}
+use Rattle.site_store.specs.stamped_store.Store.{issue, issued}
+use Rattle.site_store.proofs.of_stamped_store.Greatests.{greater_entry_is_join, count_le}
+use Rattle.site_store.proofs.of_stamped_store.Lifted.{itself, chains}
 
 -- the store has this entry at this name
 abbrev pub Has : Store → Update → Type 0

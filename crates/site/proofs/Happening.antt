@@ -4,26 +4,26 @@ use Rattle.std.specs.Prelude.{option_map, Result, Ok, Err, Contains, refl}
 use Rattle.std.proofs.Common.{sym, ap, ◌∙◌, subst, append-nil}
 use Rattle.std.specs.FinMap.{get}
 use Rattle.values.specs.declared.name.Name.{Name}
-use Rattle.site_steps.specs.schema.Schemas.{StatedSchema}
-use Rattle.site_steps.specs.stamped_store.Deltas as deltas
-use Rattle.site_steps.specs.stamped_store.EntryOrder.{PlainEntry}
-use Rattle.site_steps.specs.stamped_store.Store.{Store, Update, updates, store_of}
-use Rattle.site_steps.specs.message_format.declared.fault.MessageFault.{MessageFault}
-use Rattle.site_steps.specs.message_format.Summaries.{AreStamped, HaveTexts, IsWritten, ascend, summary_text}
-use Rattle.site_steps.specs.message_format.Summaries.{summary_stated}
-use Rattle.site_steps.specs.message_format.Messages.{state_text, delta_text, updates_stated}
-use Rattle.site_steps.specs.message_format.Updates.{AreInRange}
-use Rattle.site_steps.specs.Inputs.{Input}
-use Rattle.site_steps.specs.Inputs as input
-use Rattle.site_steps.specs.declared.reply.Reply.{Reply}
-use Rattle.site_steps.specs.declared.reply.Reply.TheVariants as reply
-use Rattle.site_steps.specs.Runs.{Step, took_by}
+use Rattle.site_store.specs.schema.Schemas.{StatedSchema}
+use Rattle.site_store.specs.stamped_store.Deltas as deltas
+use Rattle.site_store.specs.stamped_store.EntryOrder.{PlainEntry}
+use Rattle.site_store.specs.stamped_store.Store.{Store, Update, updates, store_of}
+use Rattle.sync_messages.specs.sync_format.declared.fault.MessageFault.{MessageFault}
+use Rattle.sync_messages.specs.sync_format.Summaries.{AreStamped, HaveTexts, IsWritten, ascend, summary_text}
+use Rattle.sync_messages.specs.sync_format.Summaries.{summary_stated}
+use Rattle.sync_messages.specs.sync_format.Messages.{state_text, delta_text, updates_stated}
+use Rattle.sync_messages.specs.sync_format.Updates.{AreInRange}
+use Rattle.site.specs.Inputs.{Input}
+use Rattle.site.specs.Inputs as input
+use Rattle.site.specs.declared.reply.Reply.{Reply}
+use Rattle.site.specs.declared.reply.Reply.TheVariants as reply
+use Rattle.site.specs.Runs.{Step, took_by}
 use Rattle.site.specs.declared.event.Operation.{Operation}
 use Rattle.site.specs.declared.event.Operation.TheVariants as operation
 use Rattle.site.specs.declared.event.Event.{Event}
 use Rattle.site.specs.declared.event.EventReply.{EventReply}
 use Rattle.site.specs.declared.event.EventReply.TheVariants.{Unknown}
-use Rattle.site_steps.specs.stamped_store.SiteNames.{IsSiteName}
+use Rattle.site_store.specs.stamped_store.SiteNames.{IsSiteName}
 use Rattle.site.specs.Sites.{SiteName, AreSites, numbered, set_numbered, SentSummary, SentMessage, World}
 use Rattle.site.specs.Sites.{content, part_since}
 use Rattle.site.specs.Worlds.{input_of, answer_of, after, IsStepAt, HappensAt}
@@ -31,7 +31,7 @@ use Rattle.site.proofs.Growing.{Has, StoreLaws, has_update}
 use Rattle.site.proofs.Issued.{Issue, at_site, issues_of}
 use Rattle.site.proofs.Keeping.{AllIssued, Keeps, keeps_issued, keeps_same, keeps_taken, keeps_message}
 use Rattle.site.proofs.Keeping.{keeps_summary}
-use Rattle.site_steps.specs.message_format.Texts.{IsText, AreTexts}
+use Rattle.sync_messages.specs.sync_format.Texts.{IsText, AreTexts}
 use Rattle.site.proofs.StepFacts.{IsFit, Comes, nothing, one, CommandLaws, step_leaves, unchanged, policy_put}
 use Rattle.site.proofs.StepFacts.{policy_deleted, entity_put, entity_deleted, from_message, all_of}
 

@@ -5,10 +5,10 @@ use Rattle.std.specs.Prelude.{Contains, refl}
 use Rattle.std.proofs.Common.{sym, ap, subst, inl, inr}
 use Rattle.std.proofs.lemmas.List.Elements.{Contains-append_left, Contains-append_right, Contains-append_cases}
 use Rattle.plain.proofs.Members.{Contains-here, Contains-there, Contains-none}
-use Rattle.site_steps.specs.schema.Schemas.{StatedSchema}
-use Rattle.site_steps.specs.stamped_store.Store.{Update}
-use Rattle.site_steps.specs.declared.reply.Reply.{Reply}
-use Rattle.site_steps.proofs.of_stamped_store.GreatestsBy.{by_place}
+use Rattle.site_store.specs.schema.Schemas.{StatedSchema}
+use Rattle.site_store.specs.stamped_store.Store.{Update}
+use Rattle.site.specs.declared.reply.Reply.{Reply}
+use Rattle.site_store.proofs.of_stamped_store.GreatestsBy.{by_place}
 use Rattle.site.specs.declared.event.Event.{Event}
 use Rattle.site.specs.declared.event.EventReply.{EventReply}
 use Rattle.site.specs.declared.event.EventReply.TheVariants.{Unknown, Replied, Message, Summary}

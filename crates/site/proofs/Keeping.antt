@@ -8,13 +8,13 @@ use Rattle.std.proofs.lemmas.List.Elements.{Contains-push_cases}
 use Rattle.std.specs.FinMap.{get, empty, get-empty}
 use Rattle.values.specs.declared.name.Name.{Name}
 use Rattle.values.specs.Names.{name_cmp}
-use Rattle.site_steps.specs.stamped_store.declared.entry.Stamp.{Stamp}
-use Rattle.site_steps.specs.stamped_store.Deltas.{delta, summary_of, HaveOneEntryForAStamp}
-use Rattle.site_steps.specs.stamped_store.EntryOrder.{PlainEntry}
-use Rattle.site_steps.specs.stamped_store.Greatest.{greatest_count}
-use Rattle.site_steps.specs.stamped_store.Joins.{option_below}
-use Rattle.site_steps.specs.stamped_store.Store.{Store, Update, updates, store_of, plain_below, IsStoreBelow}
-use Rattle.site_steps.specs.stamped_store.Store.{joined_stores, issue, issued}
+use Rattle.site_store.specs.stamped_store.declared.entry.Stamp.{Stamp}
+use Rattle.site_store.specs.stamped_store.Deltas.{delta, summary_of, HaveOneEntryForAStamp}
+use Rattle.site_store.specs.stamped_store.EntryOrder.{PlainEntry}
+use Rattle.site_store.specs.stamped_store.Greatest.{greatest_count}
+use Rattle.site_store.specs.stamped_store.Joins.{option_below}
+use Rattle.site_store.specs.stamped_store.Store.{Store, Update, updates, store_of, plain_below, IsStoreBelow}
+use Rattle.site_store.specs.stamped_store.Store.{joined_stores, issue, issued}
 use Rattle.site.specs.Sites.{SiteName, AreSites, numbered, set_numbered, SentSummary, SentMessage, World, start}
 use Rattle.site.proofs.Growing.{Has, StoreLaws, has_more, grows, count_bound, below_itself, below_trans, get_set}
 use Rattle.site.proofs.Growing.{set_cases}

@@ -8,5 +8,25 @@ pub mod Happening
 pub mod Promised
 pub mod Played
 pub mod Fixed
--- crates below, passed on to those above
-pub use Rattle.site_steps.proofs as of_site_steps
+pub mod JudgingLemmas
+pub mod UnderSchema
+pub mod Recording
+pub mod Taking
+pub mod StoreRanges
+pub mod Paths
+pub mod ByBytes
+pub mod RunLemmas
+pub mod OneStored
+pub mod OneAnswered
+pub mod OneOutcome
+pub mod SomeOutcome
+pub mod PermittedRuns
+-- Lemmas of lower crates, re-exported.
+pub mod Values
+pub mod Readings
+pub mod Worlds
+pub mod Stored
+pub mod Answers
+-- of lower layers
+pub use Rattle.site_store.proofs.of_stamped_store
+pub use Rattle.sync_messages.proofs.of_grammar_core

@@ -4,16 +4,16 @@ use Rattle.std.specs.Prelude.{slice_get, Option, Some, None, option_map, refl}
 use Rattle.std.proofs.Common.{sym, ap, ◌∙◌, subst, arith}
 use Rattle.std.proofs.lemmas.List.{length-map, map-append}
 use Rattle.std.proofs.lemmas.Option.{slice_get_past, slice_get_read}
-use Rattle.site_steps.specs.schema.Schemas.{StatedSchema}
+use Rattle.site_store.specs.schema.Schemas.{StatedSchema}
 use Rattle.std.specs.FinMap.{empty}
-use Rattle.site_steps.specs.stamped_store.SiteNames.{five_digits}
-use Rattle.site_steps.specs.stamped_store.Store.{Store}
-use Rattle.site_steps.specs.SiteViews.{SiteView, schema_of, store_in, IsSameSite}
-use Rattle.site_steps.specs.schema.Views.{schema_view}
-use Rattle.site_steps.specs.Inputs.{Input}
-use Rattle.site_steps.specs.Inputs as input
-use Rattle.site_steps.specs.declared.reply.Reply.{Reply}
-use Rattle.site_steps.specs.Runs.{Step}
+use Rattle.site_store.specs.stamped_store.SiteNames.{five_digits}
+use Rattle.site_store.specs.stamped_store.Store.{Store}
+use Rattle.site.specs.SiteViews.{SiteView, schema_of, store_in, IsSameSite}
+use Rattle.site_store.specs.schema.Views.{schema_view}
+use Rattle.site.specs.Inputs.{Input}
+use Rattle.site.specs.Inputs as input
+use Rattle.site.specs.declared.reply.Reply.{Reply}
+use Rattle.site.specs.Runs.{Step}
 use Rattle.site.specs.declared.event.Operation.{Operation}
 use Rattle.site.specs.declared.event.Operation.TheVariants as operation
 use Rattle.site.specs.declared.event.Event.{Event}

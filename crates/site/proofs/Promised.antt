@@ -2,26 +2,26 @@
 use Rattle.std.specs.Prelude.{◌≡◌, ◌∷◌, ◌++◌, [], ℕ, List, length, slice_get, Option, Some, None, option_map, Result}
 use Rattle.std.specs.Prelude.{Ok, Err, Contains, refl}
 use Rattle.std.proofs.Common.{sym, ap, ◌∙◌, subst, append_assoc, append-nil}
-use Rattle.site_steps.specs.schema.Schemas.{StatedSchema}
-use Rattle.site_steps.specs.policy_grammar.declared.policy.Policy.{Policy}
-use Rattle.site_steps.specs.entity_data.declared.entity.Entity.{Entity}
-use Rattle.site_steps.specs.stamped_store.Deltas.{delta, summary_of, HaveOneEntryForAStamp}
-use Rattle.site_steps.specs.stamped_store.Store.{Store, Update, updates, store_of, joined_stores, IsStoreBelow}
-use Rattle.site_steps.specs.message_format.Summaries.{summary_stated}
-use Rattle.site_steps.specs.message_format.declared.update.Update.{Update as SentUpdate}
-use Rattle.site_steps.specs.message_format.Messages.{updates_stated}
-use Rattle.site_steps.specs.message_format.Updates.{AreInRange, AreValid, IsValid, plain_updates}
-use Rattle.site_steps.specs.Admitted.{IsPolicyUnder, IsEntityUnder}
-use Rattle.site_steps.specs.declared.fault.SiteFault.{SiteFault}
-use Rattle.site_steps.specs.declared.fault.SiteFault.TheVariants as fault
-use Rattle.site_steps.specs.declared.outcome.Taken.TheVariants.{All}
-use Rattle.site_steps.specs.Inputs.{Input}
-use Rattle.site_steps.specs.Inputs as input
-use Rattle.site_steps.specs.declared.reply.Reply.{Reply}
-use Rattle.site_steps.specs.declared.reply.Reply.TheVariants as reply
-use Rattle.site_steps.specs.sync_messages.Messages.{IsMessageOf}
-use Rattle.site_steps.specs.Runs.{Step, took_by, updates_of_message}
-use Rattle.site_steps.specs.Outcomes.{ReportsNoFailedAllocationForAll, InputsHaveOneOutcome}
+use Rattle.site_store.specs.schema.Schemas.{StatedSchema}
+use Rattle.site_store.specs.policy_grammar.declared.policy.Policy.{Policy}
+use Rattle.site_store.specs.entity_data.declared.entity.Entity.{Entity}
+use Rattle.site_store.specs.stamped_store.Deltas.{delta, summary_of, HaveOneEntryForAStamp}
+use Rattle.site_store.specs.stamped_store.Store.{Store, Update, updates, store_of, joined_stores, IsStoreBelow}
+use Rattle.sync_messages.specs.sync_format.Summaries.{summary_stated}
+use Rattle.sync_messages.specs.sync_format.declared.update.Update.{Update as SentUpdate}
+use Rattle.sync_messages.specs.sync_format.Messages.{updates_stated}
+use Rattle.sync_messages.specs.sync_format.Updates.{AreInRange, AreValid, IsValid, plain_updates}
+use Rattle.site.specs.Admitted.{IsPolicyUnder, IsEntityUnder}
+use Rattle.site.specs.declared.fault.SiteFault.{SiteFault}
+use Rattle.site.specs.declared.fault.SiteFault.TheVariants as fault
+use Rattle.site.specs.declared.outcome.Taken.TheVariants.{All}
+use Rattle.site.specs.Inputs.{Input}
+use Rattle.site.specs.Inputs as input
+use Rattle.site.specs.declared.reply.Reply.{Reply}
+use Rattle.site.specs.declared.reply.Reply.TheVariants as reply
+use Rattle.sync_messages.specs.Messages.{IsMessageOf}
+use Rattle.site.specs.Runs.{Step, took_by, updates_of_message}
+use Rattle.site.specs.Outcomes.{ReportsNoFailedAllocationForAll, InputsHaveOneOutcome}
 use Rattle.site.specs.declared.event.Operation.TheVariants as operation
 use Rattle.site.specs.declared.event.Event.{Event}
 use Rattle.site.specs.declared.event.EventReply.{EventReply}

@@ -8,47 +8,47 @@ use Rattle.std.specs.FinMap.{get}
 use Rattle.std.proofs.Common.{sym, ap, ◌∙◌, subst, arith, append-nil}
 use Rattle.std.proofs.lemmas.List.Elements.{All-contains_itself, All-weaker, recursion_from_All}
 use Rattle.serde_json.specs.Data.{Data}
-use Rattle.site_steps.specs.entities.Texts.{HasUtf8}
+use Rattle.entities.specs.Texts.{HasUtf8}
 use Rattle.json_words.specs.Json.{json_of}
 use Rattle.values.specs.declared.name.Name.{Name}
 use Rattle.values.specs.declared.name.Name.TheVariants as name
-use Rattle.site_steps.specs.entity_uids.Laws.{UidsAreFound}
-use Rattle.site_steps.specs.schema.Schemas.{StatedSchema}
-use Rattle.site_steps.specs.schema.WellFormed.{IsWellFormed}
-use Rattle.site_steps.specs.entity_data.declared.entity.Entity.{Entity}
-use Rattle.site_steps.specs.policy_grammar.declared.policy.Policy.{Policy}
+use Rattle.entity_uids.specs.Laws.{UidsAreFound}
+use Rattle.site_store.specs.schema.Schemas.{StatedSchema}
+use Rattle.site_store.specs.schema.WellFormed.{IsWellFormed}
+use Rattle.site_store.specs.entity_data.declared.entity.Entity.{Entity}
+use Rattle.site_store.specs.policy_grammar.declared.policy.Policy.{Policy}
 use Rattle.values.specs.declared.entity_uid.EntityUid.{EntityUid}
-use Rattle.site_steps.specs.entities.declared.fault.EntityFault.{EntityFault}
-use Rattle.site_steps.specs.entities.Canonical.{canonical_json, canonical_text}
-use Rattle.site_steps.specs.entities.Entities.{entity_stated_in}
-use Rattle.site_steps.specs.entities.CanonicalLaws.{JsonTextsAreUtf8, IsReadFrom, CanonicalTextsAreJson}
-use Rattle.site_steps.specs.sync_messages.Laws.{CanonicalTextsAreRead}
-use Rattle.site_steps.specs.stamped_store.declared.entry.Stamp.{Stamp}
-use Rattle.site_steps.specs.stamped_store.Contents.{text_under}
-use Rattle.site_steps.specs.stamped_store.EntryOrder.{PlainEntry}
-use Rattle.site_steps.specs.stamped_store.Greatest.{greatest_count}
-use Rattle.site_steps.specs.stamped_store.Store.{Store, Update, updates, store_of, issue, issued, policy_name}
-use Rattle.site_steps.specs.stamped_store.Store.{entity_name}
-use Rattle.site_steps.specs.message_format.Summaries.{HasTexts, IsName, IsStamped}
-use Rattle.site_steps.specs.message_format.Messages.{updates_stated}
-use Rattle.site_steps.specs.message_format.Updates.{stamped, IsValid}
-use Rattle.site_steps.specs.Admitted.{IsPolicyUnder, IsEntityUnder, IsPolicyId, entity_stated}
-use Rattle.site_steps.specs.Steps.{most_count, Records}
-use Rattle.site_steps.specs.declared.outcome.Taken.TheVariants.{All, Short}
-use Rattle.site_steps.proofs.JudgingLemmas.{json_utf8}
-use Rattle.site_steps.proofs.Paths.{entity_path}
-use Rattle.site_steps.specs.Inputs.{Input}
-use Rattle.site_steps.specs.Inputs as input
-use Rattle.site_steps.specs.declared.reply.Reply.{Reply}
-use Rattle.site_steps.specs.declared.reply.Reply.TheVariants as reply
-use Rattle.site_steps.specs.Runs.{Step, Run, took_by, took, update_of_entity, update_of_deletion, updates_of_message}
-use Rattle.site_steps.specs.stamped_store.SiteNames.{IsSiteName}
+use Rattle.entities.specs.declared.fault.EntityFault.{EntityFault}
+use Rattle.entities.specs.Canonical.{canonical_json, canonical_text}
+use Rattle.entities.specs.Entities.{entity_stated_in}
+use Rattle.entities.specs.CanonicalLaws.{JsonTextsAreUtf8, IsReadFrom, CanonicalTextsAreJson}
+use Rattle.sync_messages.specs.Laws.{CanonicalTextsAreRead}
+use Rattle.site_store.specs.stamped_store.declared.entry.Stamp.{Stamp}
+use Rattle.site_store.specs.stamped_store.Contents.{text_under}
+use Rattle.site_store.specs.stamped_store.EntryOrder.{PlainEntry}
+use Rattle.site_store.specs.stamped_store.Greatest.{greatest_count}
+use Rattle.site_store.specs.stamped_store.Store.{Store, Update, updates, store_of, issue, issued, policy_name}
+use Rattle.site_store.specs.stamped_store.Store.{entity_name}
+use Rattle.sync_messages.specs.sync_format.Summaries.{HasTexts, IsName, IsStamped}
+use Rattle.sync_messages.specs.sync_format.Messages.{updates_stated}
+use Rattle.sync_messages.specs.sync_format.Updates.{stamped, IsValid}
+use Rattle.site.specs.Admitted.{IsPolicyUnder, IsEntityUnder, IsPolicyId, entity_stated}
+use Rattle.site.specs.Steps.{most_count, Records}
+use Rattle.site.specs.declared.outcome.Taken.TheVariants.{All, Short}
+use Rattle.site.proofs.JudgingLemmas.{json_utf8}
+use Rattle.site.proofs.Paths.{entity_path}
+use Rattle.site.specs.Inputs.{Input}
+use Rattle.site.specs.Inputs as input
+use Rattle.site.specs.declared.reply.Reply.{Reply}
+use Rattle.site.specs.declared.reply.Reply.TheVariants as reply
+use Rattle.site.specs.Runs.{Step, Run, took_by, took, update_of_entity, update_of_deletion, updates_of_message}
+use Rattle.site_store.specs.stamped_store.SiteNames.{IsSiteName}
 use Rattle.site.specs.Sites.{SiteName}
-use Rattle.site_steps.specs.message_format.declared.fault.MessageFault.{MessageFault}
+use Rattle.sync_messages.specs.sync_format.declared.fault.MessageFault.{MessageFault}
 use Rattle.plain.proofs.Members.{Contains-here, Contains-there, Contains-none}
-use Rattle.site_steps.proofs.of_stamped_store.GreatestsBy.{by_place}
+use Rattle.site_store.proofs.of_stamped_store.GreatestsBy.{by_place}
 use Rattle.site.proofs.Growing.{Has}
-use Rattle.site_steps.specs.message_format.Texts.{IsText}
+use Rattle.sync_messages.specs.sync_format.Texts.{IsText}
 
 -- an update that may be sent: its name and stamp are in their ranges, its text may be read under its name, and its
 -- texts are UTF-8

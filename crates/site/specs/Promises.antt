@@ -3,19 +3,19 @@
 -- Source: "Delta state replicated data types" (Almeida, Shoker, Baquero 2018), for deltas in place of states.
 -- Rules of this product: the other promises.
 use Rattle.std.specs.Prelude.{◌≡◌, ℕ, List, slice_get, Some, Ok, Err, Contains}
-use Rattle.site_steps.specs.schema.Schemas.{StatedSchema}
-use Rattle.site_steps.specs.schema.SchemaEntries.{SchemaEntries}
-use Rattle.site_steps.specs.schema.Views.{schema_view, IsStated}
-use Rattle.site_steps.specs.stamped_store.Store.{Store, Update, updates, joined_stores}
-use Rattle.site_steps.specs.message_format.Messages.{updates_stated}
-use Rattle.site_steps.specs.declared.fault.SiteFault.{SiteFault}
-use Rattle.site_steps.specs.declared.fault.SiteFault.TheVariants.{NoMemory}
-use Rattle.site_steps.specs.declared.outcome.Taken.TheVariants.{All}
-use Rattle.site_steps.specs.Inputs.{Input}
-use Rattle.site_steps.specs.Inputs as input
-use Rattle.site_steps.specs.declared.reply.Reply.{Reply}
-use Rattle.site_steps.specs.declared.reply.Reply.TheVariants as reply
-use Rattle.site_steps.specs.Runs.{Step}
+use Rattle.site_store.specs.schema.Schemas.{StatedSchema}
+use Rattle.site_store.specs.schema.SchemaEntries.{SchemaEntries}
+use Rattle.site_store.specs.schema.Views.{schema_view, IsStated}
+use Rattle.site_store.specs.stamped_store.Store.{Store, Update, updates, joined_stores}
+use Rattle.sync_messages.specs.sync_format.Messages.{updates_stated}
+use Rattle.site.specs.declared.fault.SiteFault.{SiteFault}
+use Rattle.site.specs.declared.fault.SiteFault.TheVariants.{NoMemory}
+use Rattle.site.specs.declared.outcome.Taken.TheVariants.{All}
+use Rattle.site.specs.Inputs.{Input}
+use Rattle.site.specs.Inputs as input
+use Rattle.site.specs.declared.reply.Reply.{Reply}
+use Rattle.site.specs.declared.reply.Reply.TheVariants as reply
+use Rattle.site.specs.Runs.{Step}
 use Rattle.site.specs.declared.event.Operation.{Operation}
 use Rattle.site.specs.declared.event.Operation.TheVariants as operation
 use Rattle.site.specs.declared.event.Event.{Event}

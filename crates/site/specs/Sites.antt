@@ -2,9 +2,9 @@
 -- Rules of this product: messages and summaries are numbered from 0, sites from 1.
 use Rattle.std.specs.Prelude.{◌≡◌, ℕ, zero, suc, List, [], ◌∷◌, ◌++◌, map, set, slice_get, Option, Some, None}
 use Rattle.std.specs.FinMap.{empty}
-use Rattle.site_steps.specs.stamped_store.Deltas.{delta, summary_of}
-use Rattle.site_steps.specs.stamped_store.SiteNames.{IsSiteName, five_digits}
-use Rattle.site_steps.specs.stamped_store.Store.{Store}
+use Rattle.site_store.specs.stamped_store.Deltas.{delta, summary_of}
+use Rattle.site_store.specs.stamped_store.SiteNames.{IsSiteName, five_digits}
+use Rattle.site_store.specs.stamped_store.Store.{Store}
 
 -- ---- the names of sites
 

@@ -1,10 +1,10 @@
 -- Defines when the values of the code (the sites, and the bytes of messages and summaries) represent the state of a
 -- system.
 use Rattle.std.specs.Prelude.{◌≡◌, ℕ, List, [], ◌∷◌, map}
-use Rattle.site_steps.specs.schema.Schemas.{StatedSchema}
-use Rattle.site_steps.specs.stamped_store.Store.{Store}
-use Rattle.site_steps.specs.Runs.{Step}
-use Rattle.site_steps.specs.SiteViews.{SiteView, schema_of, store_in}
+use Rattle.site_store.specs.schema.Schemas.{StatedSchema}
+use Rattle.site_store.specs.stamped_store.Store.{Store}
+use Rattle.site.specs.Runs.{Step}
+use Rattle.site.specs.SiteViews.{SiteView, schema_of, store_in}
 use Rattle.site.specs.declared.event.Event.{Event}
 use Rattle.site.specs.declared.event.EventReply.{EventReply}
 use Rattle.site.specs.Sites.{SiteName, World}

@@ -1,7 +1,8 @@
 //! The events of a system of sites, and their replies.
 
+use crate::fault::SiteFault;
+use crate::reply::Reply;
 use plain::Items;
-use site_steps::{Reply, SiteFault};
 
 /// An operation at a site, not checked yet. Each part is bytes, as they came in.
 #[derive(Drop)]

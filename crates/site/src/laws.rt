@@ -4,11 +4,16 @@ ghost use Rattle.site.specs.Sites.{AreSites, first_sites};
 ghost use Rattle.site.specs.Promises.{AllWorldsKeepPromises};
 ghost use Rattle.site.specs.Worlds.{RepliesDetermineWorlds};
 
-use site_steps::{
-    Entity, Policy, SchemaTexts, deltas_are_joined, inputs_have_one_outcome, json_texts_are_utf8,
-    messages_read_back, names_read_back, runs_leave_what_they_took, site_names_are_recognized,
-    stamps_are_issued, stated_schemas_are_well_formed, summaries_read_back, updates_have_one_store,
-    valid_messages_are_read,
+use crate::leaving::runs_leave_what_they_took;
+use crate::step_laws::inputs_have_one_outcome;
+use entities::json_texts_are_utf8;
+use entity_uids::names_read_back;
+use site_store::{
+    Entity, Policy, deltas_are_joined, site_names_are_recognized, stamps_are_issued,
+    stated_schemas_are_well_formed, updates_have_one_store,
+};
+use sync_messages::{
+    SchemaTexts, messages_read_back, summaries_read_back, valid_messages_are_read,
 };
 
 /// Proves what holds in each system of sites with distinct names under a schema that some bytes describe. No-op.
@@ -31,7 +36,7 @@ pub fn worlds_keep_promises()
     json_texts_are_utf8();
     names_read_back();
     entities::canonical_texts_are_read();
-    site_steps::canonical_texts_are_read();
+    sync_messages::canonical_texts_are_read();
     summaries_read_back();
     messages_read_back();
     valid_messages_are_read::<Policy, Entity, SchemaTexts<'static>>();

@@ -1,16 +1,19 @@
 //! Runs a system of sites, event by event.
-ghost use Rattle.site_steps.specs.schema.Schemas.{StatedSchema};
+ghost use Rattle.site_store.specs.schema.Schemas.{StatedSchema};
 ghost use Rattle.site.specs.Sites.{SiteName, start};
 ghost use Rattle.std.specs.Prelude.{◌≡◌, List, ◌++◌, IfOk, OnOk, length, option_map};
-ghost use Rattle.site_steps.specs.SiteViews.{schema_of, store_in, IsSameSite};
-ghost use Rattle.site_steps.specs.Inputs.{input_of};
+ghost use Rattle.site.specs.SiteViews.{schema_of, store_in, IsSameSite};
+ghost use Rattle.site.specs.Inputs.{input_of};
 ghost use Rattle.site.specs.Worlds.{answer_among, message_bytes, summary_bytes as bytes_made};
 ghost use Rattle.site.specs.SystemViews.{IsRunTo, IsViewOf};
 ghost use Rattle.site.specs.inner.Playing.{input_among, AnswersOperation, IsEventStep};
 
 use crate::event::{Event, EventReply, Operation};
+use crate::input::Input;
+use crate::reply::Reply;
+use crate::site::Site;
+use json_words::Scratch;
 use plain::{Items, NoMemory};
-use site_steps::{Input, Reply, Scratch, Site};
 use std::alloc::Global;
 
 /// Returns the input that an operation gives its site, or `None` if the operation names a message or summary that was

@@ -1,9 +1,9 @@
 //! A system of sites, run from a list of events.
 ghost use Rattle.std.specs.Prelude.{◌≤◌, IfOk, List, []};
-ghost use Rattle.site_steps.specs.schema.Schemas.{StatedSchema};
-ghost use Rattle.site_steps.specs.schema.Views.{schema_view};
-ghost use Rattle.site_steps.specs.stamped_store.SiteNames.{five_digits};
-ghost use Rattle.site_steps.specs.stamped_store.Store.{store_of};
+ghost use Rattle.site_store.specs.schema.Schemas.{StatedSchema};
+ghost use Rattle.site_store.specs.schema.Views.{schema_view};
+ghost use Rattle.site_store.specs.stamped_store.SiteNames.{five_digits};
+ghost use Rattle.site_store.specs.stamped_store.Store.{store_of};
 ghost use Rattle.site.specs.Sites.{SiteName as Named, first_sites, start};
 ghost use Rattle.site.specs.Promises.{WorldKeepsPromises};
 ghost use Rattle.site.specs.SystemViews.{IsSiteOf, AreSitesOf, IsRunTo};
@@ -11,8 +11,9 @@ ghost use Rattle.site.specs.SystemViews.{IsSiteOf, AreSitesOf, IsRunTo};
 use crate::event::{Event, EventReply};
 use crate::laws::{first_sites_are_distinct, worlds_keep_promises};
 use crate::playing::play;
+use crate::site::Site;
 use plain::{Items, NoMemory, Shared};
-use site_steps::{Schema, Site, SiteName};
+use site_store::{Schema, SiteName};
 use std::alloc::Global;
 
 /// The state of a system: the sites, the messages and summaries that were made, and the replies to the events.

@@ -11,22 +11,22 @@ use Rattle.serde_json.specs.Find.{as_array}
 use Rattle.json_words.specs.Json.{json_of}
 use Rattle.json_words.specs.Each.{list_of}
 use Rattle.json_words.specs.ReadsAs.{◌>>=◌, or_fault}
-use Rattle.schema_decisions.specs.json_words.Arrays.{array_of}
+use Rattle.json_words.specs.Arrays.{array_of}
 use Rattle.schema_decisions.specs.schema.Schemas.{StatedSchema}
 use Rattle.schema_decisions.specs.schema.Views.{schema_view}
 use Rattle.schema_decisions.specs.entity_data.declared.entity.Entity.{Entity}
-use Rattle.site_steps.specs.stamped_store.Store.{Store, updates}
-use Rattle.site_steps.specs.message_format.Messages.{state_text, updates_stated}
+use Rattle.site.specs.stamped_store.Store.{Store, updates}
+use Rattle.site.specs.sync_format.Messages.{state_text, updates_stated}
 use Rattle.schema_decisions.specs.answer_lines.declared.refusal.Refusal.{Refusal}
 use Rattle.schema_decisions.specs.answer_lines.Refusals.{bad_shape, no_memory}
 use Rattle.plain.specs.AllocationErrors.{OrNoMemory}
 use Rattle.schema_decisions.specs.decision_texts.EntityArrays.{entities_in, entities_of}
 use Rattle.schema_decisions.specs.UnderSchema.{reading_under}
-use Rattle.site_steps.specs.SiteViews.{SiteView, schema_of, store_in, IsSameSite}
-use Rattle.grammar_files.specs.grammar_tokens.Lexing.{IsBadAt, BadIsNotLexed}
-use Rattle.schema_decisions.specs.policy_grammar.declared.policy.Policy.{Policy}
-use Rattle.schema_decisions.specs.policy_grammar.CoreOf.{IsCoreOf}
-use Rattle.grammar_files.specs.Cuts.{AreTextsOf, AreAsManyAsPolicies}
+use Rattle.site.specs.SiteViews.{SiteView, schema_of, store_in, IsSameSite}
+use Rattle.policy_grammar.specs.grammar_syntax.Lexing.{IsBadAt, BadIsNotLexed}
+use Rattle.policy_grammar.specs.declared.policy.Policy.{Policy}
+use Rattle.policy_grammar.specs.CoreOf.{IsCoreOf}
+use Rattle.policy_grammar.specs.Cuts.{AreTextsOf, AreAsManyAsPolicies}
 use Rattle.schema_decisions.specs.decision_texts.Decisions.{ArePoliciesOf}
 use Rattle.site_loading.specs.Puts.{policy_put, entity_put, AcceptsAll, RefusesFirst}
 use Rattle.site_loading.specs.Loads.{policy_puts, items_of, AreNamedTexts, LoadsPolicies, RefusesPolicies}

@@ -4,15 +4,15 @@ use Rattle.std.proofs.Common.{None, option_map, Err, refl, sym, ap, ◌∙◌, s
 use Rattle.serde_json.specs.Data.{Data}
 use Rattle.schema_decisions.specs.schema.Views.{schema_view}
 use Rattle.schema_decisions.specs.schema.Schemas.{StatedSchema}
-use Rattle.site_steps.specs.stamped_store.Store.{Store}
+use Rattle.site.specs.stamped_store.Store.{Store}
 use Rattle.schema_decisions.specs.answer_lines.declared.refusal.Refusal.{Refusal}
 use Rattle.plain.specs.AllocationErrors.{OrNoMemory}
 use Rattle.schema_decisions.specs.answer_lines.Refusals.{no_memory}
-use Rattle.site_steps.specs.declared.fault.SiteFault.{SiteFault}
-use Rattle.site_steps.specs.declared.fault.SiteFault.TheVariants as fault
-use Rattle.site_steps.specs.SiteViews.{SiteView, schema_of, IsSameSite}
-use Rattle.site_steps.specs.Readings.{parsed}
-use Rattle.site_steps.specs.Steps.{PutsPolicy, PutsEntity}
+use Rattle.site.specs.declared.fault.SiteFault.{SiteFault}
+use Rattle.site.specs.declared.fault.SiteFault.TheVariants as fault
+use Rattle.site.specs.SiteViews.{SiteView, schema_of, IsSameSite}
+use Rattle.site.specs.Readings.{parsed}
+use Rattle.site.specs.Steps.{PutsPolicy, PutsEntity}
 use Rattle.site_loading.specs.Puts.{Operation, policy_put, entity_put, put_refusal, Accepts, RefusesAt, AcceptsAll}
 use Rattle.site_loading.specs.Puts.{RefusesFirst}
 

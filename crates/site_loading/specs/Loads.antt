@@ -9,12 +9,12 @@ use Rattle.serde_json.specs.Data.{Data}
 use Rattle.serde_json.specs.Find.{as_array}
 use Rattle.json_words.specs.Json.{json_of}
 use Rattle.json_words.specs.Each.{list_of}
-use Rattle.schema_decisions.specs.policy_grammar.declared.policy.Policy.{Policy}
-use Rattle.grammar_files.specs.Cuts.{AreTextsOf}
+use Rattle.policy_grammar.specs.declared.policy.Policy.{Policy}
+use Rattle.policy_grammar.specs.Cuts.{AreTextsOf}
 use Rattle.schema_decisions.specs.schema.Schemas.{StatedSchema}
 use Rattle.schema_decisions.specs.entity_data.declared.entity.Entity.{Entity}
-use Rattle.site_steps.specs.stamped_store.Store.{Store, updates}
-use Rattle.site_steps.specs.message_format.Messages.{state_text, updates_stated}
+use Rattle.site.specs.stamped_store.Store.{Store, updates}
+use Rattle.site.specs.sync_format.Messages.{state_text, updates_stated}
 use Rattle.schema_decisions.specs.answer_lines.declared.refusal.Refusal.{Refusal}
 use Rattle.schema_decisions.specs.decision_texts.Decisions.{ArePoliciesOf, ArePoliciesRefused}
 use Rattle.schema_decisions.specs.decision_texts.EntityArrays.{entities_of}

@@ -3,16 +3,16 @@
 use Rattle.std.specs.Prelude.{◌≡◌, ◌⊎◌, ℕ, suc, List, [], ◌∷◌, Some, Ok, Err}
 use Rattle.serde_json.specs.Data.{Data}
 use Rattle.schema_decisions.specs.schema.Schemas.{StatedSchema}
-use Rattle.site_steps.specs.stamped_store.declared.entry.Stamp.{Stamp}
-use Rattle.site_steps.specs.stamped_store.Store.{Store}
+use Rattle.site.specs.stamped_store.declared.entry.Stamp.{Stamp}
+use Rattle.site.specs.stamped_store.Store.{Store}
 use Rattle.schema_decisions.specs.answer_lines.declared.refusal.Refusal.{Refusal}
 use Rattle.schema_decisions.specs.answer_lines.Refusals.{no_memory}
-use Rattle.site_steps.specs.declared.fault.SiteFault.{SiteFault}
-use Rattle.site_steps.specs.declared.fault.SiteFault.TheVariants.{NoMemory}
-use Rattle.site_steps.specs.declared.outcome.Put.{Put}
-use Rattle.site_steps.specs.Faults.{code_of, within_of}
-use Rattle.site_steps.specs.Readings.{parsed}
-use Rattle.site_steps.specs.Steps.{PutsPolicy, PutsEntity}
+use Rattle.site.specs.declared.fault.SiteFault.{SiteFault}
+use Rattle.site.specs.declared.fault.SiteFault.TheVariants.{NoMemory}
+use Rattle.site.specs.declared.outcome.Put.{Put}
+use Rattle.site.specs.Faults.{code_of, within_of}
+use Rattle.site.specs.Readings.{parsed}
+use Rattle.site.specs.Steps.{PutsPolicy, PutsEntity}
 
 -- An `Operation` is a put: `policy_put id text` puts the text of a policy under its id, and `entity_put json` the
 -- entity that `json` describes.

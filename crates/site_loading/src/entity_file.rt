@@ -2,19 +2,18 @@
 ghost use Rattle.std.specs.Prelude.{◌≡◌, ◌<◌, ◌^◌, List, length, map, Some, IfErr, OnOk};
 ghost use Rattle.serde_json.specs.Data.{Data};
 ghost use Rattle.serde_json.specs.View.{view};
-ghost use Rattle.schema_decisions.specs.json_words.Arrays.{unread_members};
-ghost use Rattle.site_steps.specs.SiteViews.{schema_of, store_in, IsSameSite};
+ghost use Rattle.json_words.specs.Arrays.{unread_members};
+ghost use Rattle.site.specs.SiteViews.{schema_of, store_in, IsSameSite};
 ghost use Rattle.plain.specs.AllocationErrors.{OrNoMemory};
 ghost use Rattle.schema_decisions.specs.answer_lines.Refusals.{no_memory};
 ghost use Rattle.site_loading.specs.Puts.{entity_put, Accepts, AcceptsAll, RefusesAt, RefusesFirst};
 ghost use Rattle.site_loading.specs.Loads.{LoadsEntities, RefusesEntities};
 
 use crate::refusal::put_refusal;
-use schema_decisions::{
-    ArrayMembers, Member, Refusal, Scratch, UnderSchema, check_entities, members_of,
-};
+use json_words::{ArrayMembers, Member, Scratch, members_of};
+use schema_decisions::{Refusal, UnderSchema, check_entities};
 use serde_json::Value;
-use site_steps::Site;
+use site::Site;
 use std::alloc::Global;
 
 /// Puts one entity. An error other than `NoMemory` is returned with the index `place`.

@@ -7,4 +7,6 @@ mod policies;
 mod refusal;
 
 pub use loading::loaded_state;
-pub use schema_decisions::{Schema, check_texts, decide_texts, decide_under, schema_in};
+
+// of lower layers
+pub use schema_decisions::{check_texts, decide_texts, decide_under, schema_in};

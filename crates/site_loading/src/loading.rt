@@ -1,6 +1,6 @@
 //! The state of a site after a load of files.
 ghost use Rattle.std.specs.Prelude.{◌≡◌, option_map, IfOk, IfErr, OnOk};
-ghost use Rattle.site_steps.specs.SiteViews.{schema_of, store_in, IsSameSite};
+ghost use Rattle.site.specs.SiteViews.{schema_of, store_in, IsSameSite};
 ghost use Rattle.plain.specs.AllocationErrors.{OrNoMemory};
 ghost use Rattle.schema_decisions.specs.answer_lines.Refusals.{no_memory};
 ghost use Rattle.site_loading.specs.Loads.{IsLoadedState, IsRefused, LoadsIfNamed, RefusesIfNamed};
@@ -9,7 +9,7 @@ ghost use Rattle.site_loading.specs.Loads.{LoadsPolicies, RefusesPolicies, Loads
 use crate::entity_file::load_entities;
 use crate::policies::load_policies;
 use schema_decisions::Refusal;
-use site_steps::Site;
+use site::Site;
 use std::alloc::Global;
 
 /// Puts the policies of a file, if a file is given.

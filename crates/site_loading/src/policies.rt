@@ -1,7 +1,7 @@
 //! Puts the policies of a file, each with its own text.
 ghost use Rattle.std.specs.Prelude.{◌≡◌, length, map, string_bytes, IfOk, IfErr, OnOk};
-ghost use Rattle.grammar_files.specs.Cuts.{AreTextsOf};
-ghost use Rattle.site_steps.specs.SiteViews.{schema_of, store_in, IsSameSite};
+ghost use Rattle.policy_grammar.specs.Cuts.{AreTextsOf};
+ghost use Rattle.site.specs.SiteViews.{schema_of, store_in, IsSameSite};
 ghost use Rattle.plain.specs.AllocationErrors.{OrNoMemory};
 ghost use Rattle.schema_decisions.specs.answer_lines.Refusals.{no_memory};
 ghost use Rattle.site_loading.specs.Puts.{policy_put, Accepts, AcceptsAll, RefusesAt, RefusesFirst};
@@ -9,10 +9,10 @@ ghost use Rattle.site_loading.specs.Loads.{policy_puts, LoadsPolicies, RefusesPo
 ghost use Rattle.site_loading.specs.inner.Steps.{HasTokens};
 
 use crate::refusal::put_refusal;
-use grammar_files::{LexFault, files_are_cut_by_policies, lexing_is_unique, policy_texts};
 use plain::NoMemory;
-use schema_decisions::{Policy, Refusal, policies_of_file};
-use site_steps::Site;
+use policy_grammar::{LexFault, Policy, files_are_cut_by_policies, lexing_is_unique, policy_texts};
+use schema_decisions::{Refusal, policies_of_file};
+use site::Site;
 use std::alloc::Global;
 
 /// Puts one policy. An error other than `NoMemory` is returned with the index `place`.

@@ -4,7 +4,7 @@ ghost use Rattle.site_loading.specs.Puts.{put_refusal};
 
 use plain::NoMemory;
 use schema_decisions::Refusal;
-use site_steps::SiteFault;
+use site::SiteFault;
 
 /// Converts the error of a put to a [`Refusal`] whose place is the index of the policy or entity in its file.
 /// `NoMemory` has no place.

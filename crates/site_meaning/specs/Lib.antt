@@ -3,16 +3,13 @@ pub mod ByMemberOf
 pub mod TextsRead
 pub mod Listed
 pub mod inner
--- Specifications of lower crates, re-exported.
+-- of lower layers
 pub use Rattle.entity_hierarchy.specs as entity_hierarchy
 pub use Rattle.entity_hierarchy.specs.ancestor_search
 pub use Rattle.entity_hierarchy.specs.authoriser
-pub use Rattle.entity_hierarchy.specs.entities
 pub use Rattle.entity_hierarchy.specs.entity_data
 pub use Rattle.entity_hierarchy.specs.evaluator
 pub use Rattle.entity_hierarchy.specs.policy_grammar
 pub use Rattle.entity_hierarchy.specs.schema
-pub use Rattle.entity_hierarchy.specs.schema_file
-pub use Rattle.entity_hierarchy.specs.schema_names
+pub use Rattle.entity_hierarchy.specs.schema_reading
 pub use Rattle.entity_hierarchy.specs.schema_types
-pub use Rattle.stamped_store.specs as stamped_store

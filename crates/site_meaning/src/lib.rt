@@ -8,14 +8,15 @@ mod laws;
 mod policies;
 mod stored_entities;
 
-pub use entity_hierarchy::{
-    Answer, Entities, Entity, EntityFault, Lookup, PreparedRequest, Schema, actions_may_be_closed,
-    answers_are_lawful, canonical_text, decide_prepared, declarations_are_read_as_stated,
-    entities_read_back, entity_data_under, expressions_have_one_outcome, paths_are_decided,
-    read_entity, read_request, requests_have_one_outcome, scopes_do_not_err,
-    stated_schemas_are_well_formed,
-};
 pub use laws::{requests_have_one_answer, stored_actions_answer_alike, stores_have_one_reading};
 pub use policies::policies_in;
-pub use stamped_store::laws::contents_are_the_texts;
 pub use stored_entities::StoredEntities;
+
+// of lower layers
+pub use entity_hierarchy::{
+    Answer, Entities, Entity, Lookup, PreparedRequest, Schema, actions_may_be_closed,
+    answers_are_lawful, decide_prepared, declarations_are_read_as_stated, entity_data_under,
+    expressions_have_one_outcome, paths_are_decided, scopes_do_not_err,
+    stated_schemas_are_well_formed,
+};
+pub use stamped_store::laws::contents_are_the_texts;

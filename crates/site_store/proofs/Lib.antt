@@ -11,4 +11,5 @@ mod Standing
 mod StaysLemmas
 mod Tops
 -- Lemmas of lower crates, re-exported.
+-- of lower layers
 pub use Rattle.stamped_store.proofs as of_stamped_store

@@ -19,19 +19,16 @@ mod store;
 mod stored_world;
 mod winning;
 
-pub use ancestor_closure::paths_are_decided;
 pub use index::{rebuild_index_if_missing, take_policy};
 pub use laws::candidates_suffice;
-pub use scope_index::{MOST_ID_BYTES, Policy, ReadFault, parse_policy, texts_have_one_reading};
-pub use site_meaning::{
-    Answer, Entity, EntityFault, Schema, canonical_text, entities_read_back, read_entity,
-    read_request, requests_have_one_answer, requests_have_one_outcome,
-    stated_schemas_are_well_formed, stores_have_one_reading,
-};
-pub use stamped_store::laws::{
-    contents_are_the_texts, deltas_are_joined, readings_are_preserved, site_names_are_recognized,
-    stamps_are_issued, updates_have_one_store,
-};
-pub use stamped_store::{COUNT_MAX, Entry, ReadText, SiteName, Stamp, StampedStore, is_site_name};
 pub use store::IndexedStore;
 pub use winning::stored_wins;
+
+// of lower layers
+pub use scope_index::{MOST_ID_BYTES, Policy, ReadFault, parse_policy, texts_have_one_reading};
+pub use site_meaning::{Answer, Entity, Schema, stated_schemas_are_well_formed};
+pub use stamped_store::laws::{
+    deltas_are_joined, readings_are_preserved, site_names_are_recognized, stamps_are_issued,
+    updates_have_one_store,
+};
+pub use stamped_store::{COUNT_MAX, Entry, ReadText, SiteName, Stamp, StampedStore, is_site_name};

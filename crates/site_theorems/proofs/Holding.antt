@@ -4,14 +4,14 @@ use Rattle.std.proofs.Common.{subst, inl, inr, append-nil, append_assoc, arith}
 use Rattle.std.specs.Prelude.{◌⊎◌, ◌++◌, length, set, slice_get, option_map}
 use Rattle.std.proofs.lemmas.Option.{slice_get-map}
 use Rattle.values.specs.Names.{name_cmp-IsTotalOrder, name_cmp-IsAntisymmetric}
-use Rattle.site.specs.site_steps.schema.Schemas.{StatedSchema}
-use Rattle.site.specs.site_steps.stamped_store.Store.{Store, Update, updates, store_of}
-use Rattle.site.specs.site_steps.declared.fault.SiteFault.{SiteFault}
-use Rattle.site.specs.site_steps.Inputs.{Input}
-use Rattle.site.specs.site_steps.Inputs as input
-use Rattle.site.specs.site_steps.declared.reply.Reply.{Reply}
-use Rattle.site.specs.site_steps.declared.reply.Reply.TheVariants as reply
-use Rattle.site.specs.site_steps.Runs.{took_by}
+use Rattle.site.specs.schema.Schemas.{StatedSchema}
+use Rattle.site.specs.stamped_store.Store.{Store, Update, updates, store_of}
+use Rattle.site.specs.declared.fault.SiteFault.{SiteFault}
+use Rattle.site.specs.Inputs.{Input}
+use Rattle.site.specs.Inputs as input
+use Rattle.site.specs.declared.reply.Reply.{Reply}
+use Rattle.site.specs.declared.reply.Reply.TheVariants as reply
+use Rattle.site.specs.Runs.{took_by}
 use Rattle.site.specs.declared.event.Operation.{Operation}
 use Rattle.site.specs.declared.event.Operation.TheVariants as operation
 use Rattle.site.specs.declared.event.Event.{Event}
@@ -21,8 +21,8 @@ use Rattle.site.specs.Sites.{SiteName, SentSummary, SentMessage, World, numbered
 use Rattle.site.specs.Worlds.{input_of, answer_among, message_made, summary_made, after, IsStepAt, HappensAt}
 use Rattle.site.specs.Worlds.{Happens, Leads}
 use Rattle.site.proofs.Keeping.{get_set_numbered}
-use Rattle.site.proofs.of_site_steps.of_stamped_store.Greatests.{entry_order}
-use Rattle.site.proofs.of_site_steps.of_stamped_store.GreatestsBy.{is_store_of-store_of, store_of-append}
+use Rattle.site.proofs.of_stamped_store.Greatests.{entry_order}
+use Rattle.site.proofs.of_stamped_store.GreatestsBy.{is_store_of-store_of, store_of-append}
 use Rattle.site_theorems.specs.Steps.{IsStep}
 use Rattle.site_theorems.specs.Runs.{Applies}
 use Rattle.site_theorems.specs.SiteStores.{AppliesIn, AppliesAt, here, elsewhere, AppliedAt, HoldsApplied}

@@ -3,3 +3,8 @@ mod Stepping
 mod Running
 mod Holding
 mod Systems
+mod ExampleText
+mod ExampleStated
+mod ExampleRead
+mod ExampleConforms
+mod ExamplePasses

@@ -4,22 +4,22 @@ use Rattle.std.specs.Prelude.{◌↔◌, option_and_then}
 use Rattle.serde_json.specs.Data.{Data}
 use Rattle.values.specs.declared.entity_uid.EntityUid.{EntityUid}
 use Rattle.values.specs.declared.request.Request.{Request}
-use Rattle.site.specs.site_steps.policy_grammar.declared.policy.Policy.{Policy}
-use Rattle.site.specs.site_steps.authoriser.declared.answer.Answer.{Answer}
-use Rattle.site.specs.site_steps.schema.Schemas.{StatedSchema}
-use Rattle.site.specs.site_steps.entity_data.declared.entity.Entity.{Entity}
-use Rattle.site.specs.site_steps.entities.declared.fault.EntityFault.{EntityFault}
-use Rattle.site.specs.site_steps.entities.declared.fault.EntityFault.TheVariants.{BadShape}
-use Rattle.site.specs.site_steps.stamped_store.Store.{Store, entity_name}
-use Rattle.site.specs.site_steps.stamped_store.Contents.{text_under}
-use Rattle.site.specs.site_steps.site_meaning.StoreMeaning.{IsReadFrom, AreEntities, IsAnswerOver, MakesCycle}
-use Rattle.site.specs.site_steps.site_meaning.StoreMeaning.{MakesNoCycle}
-use Rattle.site.specs.site_steps.Admitted.{entity_stated, IsRequestOf, IsNoRequest, JsonDescribes, JsonRefused}
-use Rattle.site.specs.site_steps.entity_uids.Uids.{IsUid, IsRead, uid_in}
-use Rattle.site.specs.site_steps.entity_uids.Laws.{OneUid, UidsAreFound}
-use Rattle.site.specs.site_steps.entities.StatedEntities.{DescribesEntity, RefusesEntity}
-use Rattle.site.specs.site_steps.entities.StatedRequests.{DescribesRequest, RefusesRequest}
-use Rattle.site.specs.site_steps.entities.ParsingLaws.{EntitiesAreRead, RequestsAreRead}
+use Rattle.site.specs.policy_grammar.declared.policy.Policy.{Policy}
+use Rattle.site.specs.authoriser.declared.answer.Answer.{Answer}
+use Rattle.site.specs.schema.Schemas.{StatedSchema}
+use Rattle.site.specs.entity_data.declared.entity.Entity.{Entity}
+use Rattle.site.specs.entities.declared.fault.EntityFault.{EntityFault}
+use Rattle.site.specs.entities.declared.fault.EntityFault.TheVariants.{BadShape}
+use Rattle.site.specs.stamped_store.Store.{Store, entity_name}
+use Rattle.site.specs.stamped_store.Contents.{text_under}
+use Rattle.site.specs.site_meaning.StoreMeaning.{IsReadFrom, AreEntities, IsAnswerOver, MakesCycle}
+use Rattle.site.specs.site_meaning.StoreMeaning.{MakesNoCycle}
+use Rattle.site.specs.Admitted.{entity_stated, IsRequestOf, IsNoRequest, JsonDescribes, JsonRefused}
+use Rattle.site.specs.entity_uids.Uids.{IsUid, IsRead, uid_in}
+use Rattle.site.specs.entity_uids.Laws.{OneUid, UidsAreFound}
+use Rattle.site.specs.entities.StatedEntities.{DescribesEntity, RefusesEntity}
+use Rattle.site.specs.entities.StatedRequests.{DescribesRequest, RefusesRequest}
+use Rattle.site.specs.entities.ParsingLaws.{EntitiesAreRead, RequestsAreRead}
 
 -- ---- entities of a store
 

@@ -5,28 +5,28 @@ use Rattle.serde_json.specs.Data.{Data}
 use Rattle.json_words.specs.Json.{json_of}
 use Rattle.values.specs.declared.entity_uid.EntityUid.{EntityUid}
 use Rattle.values.specs.Names.{name_cmp-IsTotalOrder, name_cmp-IsAntisymmetric}
-use Rattle.site.specs.site_steps.schema.Schemas.{StatedSchema}
-use Rattle.site.specs.site_steps.entity_data.declared.entity.Entity.{Entity}
-use Rattle.site.specs.site_steps.entities.declared.fault.EntityFault.{EntityFault}
-use Rattle.site.specs.site_steps.message_format.declared.fault.MessageFault.{MessageFault}
-use Rattle.site.specs.site_steps.message_format.Messages.{updates_stated}
-use Rattle.site.specs.site_steps.message_format.Updates.{plain_updates}
-use Rattle.site.specs.site_steps.stamped_store.Store.{Store, Update, updates, store_of, IsStoreOf}
-use Rattle.site.specs.site_steps.declared.outcome.Taken.TheVariants.{All, Short}
-use Rattle.site.specs.site_steps.Inputs.{Input}
-use Rattle.site.specs.site_steps.Inputs as input
-use Rattle.site.specs.site_steps.declared.reply.Reply.{Reply}
-use Rattle.site.specs.site_steps.declared.reply.Reply.TheVariants as reply
-use Rattle.site.specs.site_steps.Admitted.{JsonDescribes}
-use Rattle.site.specs.site_steps.Runs.{Run, took_by, took, update_of_entity, update_of_deletion, updates_of_message}
-use Rattle.site.specs.site_steps.entity_uids.Uids.{IsUid, uid_in}
-use Rattle.site.specs.site_steps.entity_uids.Laws.{OneUid, UidsAreFound}
-use Rattle.site.specs.site_steps.Permitted.{RunsAreSound}
-use Rattle.site.specs.site_steps.entities.ParsingLaws.{EntitiesAreRead}
-use Rattle.site.proofs.of_site_steps.of_stamped_store.Greatests.{entry_order}
-use Rattle.site.proofs.of_site_steps.of_stamped_store.GreatestsBy.{is_store_of-store_of, store_of-same_members}
-use Rattle.site.specs.site_steps.sync_messages.StatedUpdates.{DescribesUpdates}
-use Rattle.site.specs.site_steps.sync_messages.ParsingLaws.{UpdatesAreRead}
+use Rattle.site.specs.schema.Schemas.{StatedSchema}
+use Rattle.site.specs.entity_data.declared.entity.Entity.{Entity}
+use Rattle.site.specs.entities.declared.fault.EntityFault.{EntityFault}
+use Rattle.site.specs.sync_format.declared.fault.MessageFault.{MessageFault}
+use Rattle.site.specs.sync_format.Messages.{updates_stated}
+use Rattle.site.specs.sync_format.Updates.{plain_updates}
+use Rattle.site.specs.stamped_store.Store.{Store, Update, updates, store_of, IsStoreOf}
+use Rattle.site.specs.declared.outcome.Taken.TheVariants.{All, Short}
+use Rattle.site.specs.Inputs.{Input}
+use Rattle.site.specs.Inputs as input
+use Rattle.site.specs.declared.reply.Reply.{Reply}
+use Rattle.site.specs.declared.reply.Reply.TheVariants as reply
+use Rattle.site.specs.Admitted.{JsonDescribes}
+use Rattle.site.specs.Runs.{Run, took_by, took, update_of_entity, update_of_deletion, updates_of_message}
+use Rattle.site.specs.entity_uids.Uids.{IsUid, uid_in}
+use Rattle.site.specs.entity_uids.Laws.{OneUid, UidsAreFound}
+use Rattle.site.specs.Permitted.{RunsAreSound}
+use Rattle.site.specs.entities.ParsingLaws.{EntitiesAreRead}
+use Rattle.site.proofs.of_stamped_store.Greatests.{entry_order}
+use Rattle.site.proofs.of_stamped_store.GreatestsBy.{is_store_of-store_of, store_of-same_members}
+use Rattle.site.specs.sync_messages.StatedUpdates.{DescribesUpdates}
+use Rattle.site.specs.sync_messages.ParsingLaws.{UpdatesAreRead}
 use Rattle.site_theorems.specs.Steps.{IsStep}
 use Rattle.site_theorems.specs.Laws.{StepsAreAsStated}
 use Rattle.site_theorems.specs.Runs.{IsRun, Applies, Applied, LeavesApplied, RunsLeaveApplied, Holds}

@@ -6,30 +6,30 @@ use Rattle.serde_json.specs.Data.{Data}
 use Rattle.json_words.specs.Json.{json_of}
 use Rattle.values.specs.declared.entity_uid.EntityUid.{EntityUid}
 use Rattle.values.specs.declared.request.Request.{Request}
-use Rattle.site.specs.site_steps.authoriser.declared.answer.Answer.{Answer}
-use Rattle.site.specs.site_steps.policy_grammar.declared.policy.Policy.{Policy}
-use Rattle.site.specs.site_steps.schema.Schemas.{StatedSchema}
-use Rattle.site.specs.site_steps.entity_data.declared.entity.Entity.{Entity}
-use Rattle.site.specs.site_steps.entities.declared.fault.EntityFault.{EntityFault}
-use Rattle.site.specs.site_steps.message_format.declared.fault.MessageFault.{MessageFault}
-use Rattle.site.specs.site_steps.message_format.declared.update.Update.{Update}
-use Rattle.site.specs.site_steps.stamped_store.declared.entry.Stamp.{Stamp}
-use Rattle.site.specs.site_steps.stamped_store.Deltas.{Summary}
-use Rattle.site.specs.site_steps.stamped_store.Store.{Store}
-use Rattle.site.specs.site_steps.declared.fault.SiteFault.{SiteFault}
-use Rattle.site.specs.site_steps.declared.fault.SiteFault.TheVariants as fault
-use Rattle.site.specs.site_steps.declared.outcome.Taken.{Taken}
-use Rattle.site.specs.site_steps.Admitted.{IsPolicyUnder}
-use Rattle.site.specs.site_steps.Readings.{Readings, parsed}
-use Rattle.site.specs.site_steps.Steps.{PutsEntity, DeletesEntity, Answers}
-use Rattle.site.specs.site_steps.Runs.{IsNoMessageOf, TakesMessage, WritesDelta, StepBy}
-use Rattle.site.specs.site_steps.Inputs.{Input}
-use Rattle.site.specs.site_steps.Inputs as input
-use Rattle.site.specs.site_steps.declared.reply.Reply.{Reply}
-use Rattle.site.specs.site_steps.declared.reply.Reply.TheVariants as reply
-use Rattle.site.specs.site_steps.entity_uids.Laws.{OneUid, UidsAreFound}
-use Rattle.site.specs.site_steps.entities.ParsingLaws.{EntitiesAreRead, RequestsAreRead}
-use Rattle.site.specs.site_steps.sync_messages.ParsingLaws.{TextsAreRead, SummariesAreRead, MessagesAreRead}
+use Rattle.site.specs.authoriser.declared.answer.Answer.{Answer}
+use Rattle.site.specs.policy_grammar.declared.policy.Policy.{Policy}
+use Rattle.site.specs.schema.Schemas.{StatedSchema}
+use Rattle.site.specs.entity_data.declared.entity.Entity.{Entity}
+use Rattle.site.specs.entities.declared.fault.EntityFault.{EntityFault}
+use Rattle.site.specs.sync_format.declared.fault.MessageFault.{MessageFault}
+use Rattle.site.specs.sync_format.declared.update.Update.{Update}
+use Rattle.site.specs.stamped_store.declared.entry.Stamp.{Stamp}
+use Rattle.site.specs.stamped_store.Deltas.{Summary}
+use Rattle.site.specs.stamped_store.Store.{Store}
+use Rattle.site.specs.declared.fault.SiteFault.{SiteFault}
+use Rattle.site.specs.declared.fault.SiteFault.TheVariants as fault
+use Rattle.site.specs.declared.outcome.Taken.{Taken}
+use Rattle.site.specs.Admitted.{IsPolicyUnder}
+use Rattle.site.specs.Readings.{Readings, parsed}
+use Rattle.site.specs.Steps.{PutsEntity, DeletesEntity, Answers}
+use Rattle.site.specs.Runs.{IsNoMessageOf, TakesMessage, WritesDelta, StepBy}
+use Rattle.site.specs.Inputs.{Input}
+use Rattle.site.specs.Inputs as input
+use Rattle.site.specs.declared.reply.Reply.{Reply}
+use Rattle.site.specs.declared.reply.Reply.TheVariants as reply
+use Rattle.site.specs.entity_uids.Laws.{OneUid, UidsAreFound}
+use Rattle.site.specs.entities.ParsingLaws.{EntitiesAreRead, RequestsAreRead}
+use Rattle.site.specs.sync_messages.ParsingLaws.{TextsAreRead, SummariesAreRead, MessagesAreRead}
 use Rattle.site_theorems.specs.Steps.{described}
 use Rattle.site_theorems.specs.Laws.{StepsAreAsStated}
 use Rattle.site_theorems.proofs.Readings.{answer_as, cycle_as, no_cycle_as, entity_value, entity_fault}

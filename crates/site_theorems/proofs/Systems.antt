@@ -6,20 +6,20 @@ use Rattle.plain.proofs.Members.{Contains-here, Contains-none}
 use Rattle.serde_json.specs.Data.{Data}
 use Rattle.json_words.specs.Json.{json_of}
 use Rattle.values.specs.declared.entity_uid.EntityUid.{EntityUid}
-use Rattle.site.specs.site_steps.schema.Schemas.{StatedSchema}
-use Rattle.site.specs.site_steps.entity_data.declared.entity.Entity.{Entity}
-use Rattle.site.specs.site_steps.entities.Canonical.{canonical_text}
-use Rattle.site.specs.site_steps.entities.declared.fault.EntityFault.{EntityFault}
-use Rattle.site.specs.site_steps.stamped_store.declared.entry.Stamp.{Stamp}
-use Rattle.site.specs.site_steps.stamped_store.Store.{Store, Update, issued, entity_name, policy_name}
-use Rattle.site.specs.site_steps.Admitted.{JsonDescribes, entity_stated}
-use Rattle.site.specs.site_steps.entity_uids.Uids.{IsUid, uid_in}
-use Rattle.site.specs.site_steps.entity_uids.Laws.{OneUid, UidsAreFound}
-use Rattle.site.specs.site_steps.Inputs.{Input}
-use Rattle.site.specs.site_steps.Inputs as input
-use Rattle.site.specs.site_steps.declared.reply.Reply.{Reply}
-use Rattle.site.specs.site_steps.declared.reply.Reply.TheVariants as reply
-use Rattle.site.specs.site_steps.Runs.{Step, update_of_entity, update_of_deletion}
+use Rattle.site.specs.schema.Schemas.{StatedSchema}
+use Rattle.site.specs.entity_data.declared.entity.Entity.{Entity}
+use Rattle.site.specs.entities.Canonical.{canonical_text}
+use Rattle.site.specs.entities.declared.fault.EntityFault.{EntityFault}
+use Rattle.site.specs.stamped_store.declared.entry.Stamp.{Stamp}
+use Rattle.site.specs.stamped_store.Store.{Store, Update, issued, entity_name, policy_name}
+use Rattle.site.specs.Admitted.{JsonDescribes, entity_stated}
+use Rattle.site.specs.entity_uids.Uids.{IsUid, uid_in}
+use Rattle.site.specs.entity_uids.Laws.{OneUid, UidsAreFound}
+use Rattle.site.specs.Inputs.{Input}
+use Rattle.site.specs.Inputs as input
+use Rattle.site.specs.declared.reply.Reply.{Reply}
+use Rattle.site.specs.declared.reply.Reply.TheVariants as reply
+use Rattle.site.specs.Runs.{Step, update_of_entity, update_of_deletion}
 use Rattle.site.specs.declared.event.Operation.{Operation}
 use Rattle.site.specs.declared.event.Operation.TheVariants as operation
 use Rattle.site.specs.declared.event.Event.{Event}
@@ -28,10 +28,10 @@ use Rattle.site.specs.Sites.{SiteName, numbered, World, start}
 use Rattle.site.specs.Worlds.{IsStepAt, HappensAt, Happens, Leads, WasIssued, input_of}
 use Rattle.site.specs.Promises.{KeepsPromises, DescribesBy, IssuesBy}
 use Rattle.site.specs.Promises as site
-use Rattle.site.specs.site_steps.entities.StatedEntities.{DescribesEntity}
-use Rattle.site.specs.site_steps.entities.ParsingLaws.{EntitiesAreRead}
-use Rattle.site.specs.site_steps.sync_messages.StatedUpdates.{DescribesUpdates}
-use Rattle.site.specs.site_steps.sync_messages.ParsingLaws.{UpdatesAreRead}
+use Rattle.site.specs.entities.StatedEntities.{DescribesEntity}
+use Rattle.site.specs.entities.ParsingLaws.{EntitiesAreRead}
+use Rattle.site.specs.sync_messages.StatedUpdates.{DescribesUpdates}
+use Rattle.site.specs.sync_messages.ParsingLaws.{UpdatesAreRead}
 use Rattle.site_theorems.specs.Steps.{IsStep}
 use Rattle.site_theorems.specs.Laws.{StepsAreAsStated}
 use Rattle.site_theorems.specs.Promises.{Issues, WorldsKeepPromises}

@@ -1,11 +1,11 @@
 -- Defines the theorem that the steps of a site, as its contracts cite them, are those over relations between bytes and
 -- what they describe.
 use Rattle.std.specs.Prelude.{◌↔◌, ℕ, List}
-use Rattle.site.specs.site_steps.schema.Schemas.{StatedSchema}
-use Rattle.site.specs.site_steps.stamped_store.Store.{Store}
-use Rattle.site.specs.site_steps.Inputs.{Input}
-use Rattle.site.specs.site_steps.declared.reply.Reply.{Reply}
-use Rattle.site.specs.site_steps.Runs.{Step}
+use Rattle.site.specs.schema.Schemas.{StatedSchema}
+use Rattle.site.specs.stamped_store.Store.{Store}
+use Rattle.site.specs.Inputs.{Input}
+use Rattle.site.specs.declared.reply.Reply.{Reply}
+use Rattle.site.specs.Runs.{Step}
 use Rattle.site_theorems.specs.Steps.{IsStep}
 
 -- `StepsAreAsStated`: `Step`, which the contracts of a site cite, and `IsStep`, which rests on relations between bytes

@@ -4,3 +4,5 @@ pub mod SiteStores
 pub mod Promises
 pub mod MainTheorem
 pub mod Laws
+pub mod Example
+pub mod ExamplePremises

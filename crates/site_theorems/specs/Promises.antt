@@ -4,21 +4,21 @@
 use Rattle.std.specs.Prelude.{◌≡◌, ℕ, List, Some, None, Ok}
 use Rattle.json_words.specs.Json.{json_of}
 use Rattle.values.specs.declared.entity_uid.EntityUid.{EntityUid}
-use Rattle.site.specs.site_steps.schema.Schemas.{StatedSchema, IsSchemaOf}
-use Rattle.site.specs.site_steps.schema.SchemaEntries.{SchemaEntries}
-use Rattle.site.specs.site_steps.schema.Views.{schema_view}
-use Rattle.site.specs.site_steps.entity_data.declared.entity.Entity.{Entity}
-use Rattle.site.specs.site_steps.entities.Canonical.{canonical_text}
-use Rattle.site.specs.site_steps.stamped_store.Store.{Update, issued, policy_name, entity_name}
-use Rattle.site.specs.site_steps.declared.reply.Reply.{Reply}
-use Rattle.site.specs.site_steps.declared.reply.Reply.TheVariants as reply
+use Rattle.site.specs.schema.Schemas.{StatedSchema, IsSchemaOf}
+use Rattle.site.specs.schema.SchemaEntries.{SchemaEntries}
+use Rattle.site.specs.schema.Views.{schema_view}
+use Rattle.site.specs.entity_data.declared.entity.Entity.{Entity}
+use Rattle.site.specs.entities.Canonical.{canonical_text}
+use Rattle.site.specs.stamped_store.Store.{Update, issued, policy_name, entity_name}
+use Rattle.site.specs.declared.reply.Reply.{Reply}
+use Rattle.site.specs.declared.reply.Reply.TheVariants as reply
 use Rattle.site.specs.declared.event.Operation.{Operation}
 use Rattle.site.specs.declared.event.Operation.TheVariants as operation
 use Rattle.site.specs.Promises.{SystemsKeepPromises}
-use Rattle.site.specs.site_steps.Admitted.{JsonDescribes}
-use Rattle.site.specs.site_steps.entity_uids.Uids.{IsUid}
-use Rattle.site.specs.site_steps.entities.StatedEntities.{DescribesEntity}
-use Rattle.site.specs.site_steps.sync_messages.StatedUpdates.{DescribesUpdates}
+use Rattle.site.specs.Admitted.{JsonDescribes}
+use Rattle.site.specs.entity_uids.Uids.{IsUid}
+use Rattle.site.specs.entities.StatedEntities.{DescribesEntity}
+use Rattle.site.specs.sync_messages.StatedUpdates.{DescribesUpdates}
 use Rattle.site_theorems.specs.Steps.{IsStep}
 
 -- `Issues schema d r u` holds if the local command `d` issued the update `u`: the reply `r` to `d` has the stamp of

@@ -7,22 +7,22 @@
 use Rattle.std.specs.Prelude.{◌≡◌, ◌↔◌, ℕ, List, [], ◌∷◌, ◌++◌, take, Some, None, Ok, Contains}
 use Rattle.json_words.specs.Json.{json_of}
 use Rattle.values.specs.declared.entity_uid.EntityUid.{EntityUid}
-use Rattle.site.specs.site_steps.schema.Schemas.{StatedSchema, IsSchemaOf}
-use Rattle.site.specs.site_steps.entity_data.declared.entity.Entity.{Entity}
-use Rattle.site.specs.site_steps.entities.Canonical.{canonical_text}
-use Rattle.site.specs.site_steps.stamped_store.Store.{Store, Update, updates, store_of, IsStoreOf, issued}
-use Rattle.site.specs.site_steps.stamped_store.Store.{policy_name, entity_name}
-use Rattle.site.specs.site_steps.declared.outcome.Taken.TheVariants.{All, Short}
-use Rattle.site.specs.site_steps.Inputs.{Input}
-use Rattle.site.specs.site_steps.Inputs as input
-use Rattle.site.specs.site_steps.declared.reply.Reply.{Reply}
-use Rattle.site.specs.site_steps.declared.reply.Reply.TheVariants as reply
-use Rattle.site.specs.site_steps.Admitted.{JsonDescribes}
-use Rattle.site.specs.site_steps.Runs.{RunBy}
-use Rattle.site.specs.site_steps.Permitted.{ArePermittedReplies}
-use Rattle.site.specs.site_steps.entity_uids.Uids.{IsUid}
-use Rattle.site.specs.site_steps.entities.StatedEntities.{DescribesEntity}
-use Rattle.site.specs.site_steps.sync_messages.StatedUpdates.{DescribesUpdates}
+use Rattle.site.specs.schema.Schemas.{StatedSchema, IsSchemaOf}
+use Rattle.site.specs.entity_data.declared.entity.Entity.{Entity}
+use Rattle.site.specs.entities.Canonical.{canonical_text}
+use Rattle.site.specs.stamped_store.Store.{Store, Update, updates, store_of, IsStoreOf, issued}
+use Rattle.site.specs.stamped_store.Store.{policy_name, entity_name}
+use Rattle.site.specs.declared.outcome.Taken.TheVariants.{All, Short}
+use Rattle.site.specs.Inputs.{Input}
+use Rattle.site.specs.Inputs as input
+use Rattle.site.specs.declared.reply.Reply.{Reply}
+use Rattle.site.specs.declared.reply.Reply.TheVariants as reply
+use Rattle.site.specs.Admitted.{JsonDescribes}
+use Rattle.site.specs.Runs.{RunBy}
+use Rattle.site.specs.Permitted.{ArePermittedReplies}
+use Rattle.site.specs.entity_uids.Uids.{IsUid}
+use Rattle.site.specs.entities.StatedEntities.{DescribesEntity}
+use Rattle.site.specs.sync_messages.StatedUpdates.{DescribesUpdates}
 use Rattle.site_theorems.specs.Steps.{described}
 
 -- ---- runs

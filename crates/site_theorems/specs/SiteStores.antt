@@ -3,9 +3,9 @@
 -- Rules of this product: sites have numbers from 1 and are empty at first; an event that names a site, a message or a
 -- summary that does not exist applies nothing, and neither does an event that makes a message or a summary.
 use Rattle.std.specs.Prelude.{◌≡◌, ℕ, List, [], ◌∷◌, ◌++◌, Option, Some}
-use Rattle.site.specs.site_steps.schema.Schemas.{StatedSchema}
-use Rattle.site.specs.site_steps.stamped_store.Store.{Store, Update, store_of, IsStoreOf}
-use Rattle.site.specs.site_steps.Inputs.{Input}
+use Rattle.site.specs.schema.Schemas.{StatedSchema}
+use Rattle.site.specs.stamped_store.Store.{Store, Update, store_of, IsStoreOf}
+use Rattle.site.specs.Inputs.{Input}
 use Rattle.site.specs.declared.event.Event.{Event}
 use Rattle.site.specs.declared.event.EventReply.{EventReply}
 use Rattle.site.specs.declared.event.EventReply.TheVariants.{Replied}

@@ -1,21 +1,21 @@
 -- Defines the steps of a site over relations between bytes and what they describe.
 -- Source: Cedar reference guide 4.0, "Entities and context: JSON format" and "Authorization request"; docs/formats.md.
--- Rules of this product: those of the steps (site_steps); bytes of an entity or a request that are not JSON have the
+-- Rules of this product: those of the steps (site); bytes of an entity or a request that are not JSON have the
 -- error `BadShape`.
 use Rattle.std.specs.Prelude.{ℕ, List, MatchResult}
-use Rattle.site.specs.site_steps.schema.Schemas.{StatedSchema}
-use Rattle.site.specs.site_steps.stamped_store.Store.{Store}
-use Rattle.site.specs.site_steps.Admitted.{JsonDescribes, JsonRefused}
-use Rattle.site.specs.site_steps.Readings.{Readings}
-use Rattle.site.specs.site_steps.Runs.{StepBy}
-use Rattle.site.specs.site_steps.Inputs.{Input}
-use Rattle.site.specs.site_steps.declared.reply.Reply.{Reply}
-use Rattle.site.specs.site_steps.entity_uids.Uids.{IsUid, IsRead}
-use Rattle.site.specs.site_steps.entities.StatedEntities.{DescribesEntity, RefusesEntity}
-use Rattle.site.specs.site_steps.entities.StatedRequests.{DescribesRequest, RefusesRequest}
-use Rattle.site.specs.site_steps.sync_messages.StatedTexts.{DescribesText}
-use Rattle.site.specs.site_steps.sync_messages.StatedSummaries.{DescribesSummary, RefusesSummary}
-use Rattle.site.specs.site_steps.sync_messages.StatedMessages.{DescribesMessage, RefusesMessage}
+use Rattle.site.specs.schema.Schemas.{StatedSchema}
+use Rattle.site.specs.stamped_store.Store.{Store}
+use Rattle.site.specs.Admitted.{JsonDescribes, JsonRefused}
+use Rattle.site.specs.Readings.{Readings}
+use Rattle.site.specs.Runs.{StepBy}
+use Rattle.site.specs.Inputs.{Input}
+use Rattle.site.specs.declared.reply.Reply.{Reply}
+use Rattle.site.specs.entity_uids.Uids.{IsUid, IsRead}
+use Rattle.site.specs.entities.StatedEntities.{DescribesEntity, RefusesEntity}
+use Rattle.site.specs.entities.StatedRequests.{DescribesRequest, RefusesRequest}
+use Rattle.site.specs.sync_messages.StatedTexts.{DescribesText}
+use Rattle.site.specs.sync_messages.StatedSummaries.{DescribesSummary, RefusesSummary}
+use Rattle.site.specs.sync_messages.StatedMessages.{DescribesMessage, RefusesMessage}
 
 -- `described schema` are the readings under `schema` by relations between bytes and what they describe.
 abbrev pub described : StatedSchema → Readings

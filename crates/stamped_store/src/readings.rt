@@ -4,7 +4,7 @@ ghost use Rattle.values.specs.declared.entity_uid.EntityUid.{EntityUid};
 
 /// The possible parsed forms of a store's texts: a relation between a name, a text and its parsed form.
 ///
-/// The trait has no methods. A contract cannot range over relations, so [`crate::laws::readings_are_preserved`] ranges
+/// The trait has no methods. A contract cannot range over relations, so [`crate::readings_are_preserved`] ranges
 /// over the implementations of this trait. A crate that maintains such a relation implements the trait for a type of
 /// its own, and uses the theorem. Values of this type may contain what the relation depends on, such as a schema.
 pub trait Readings<P, E> {

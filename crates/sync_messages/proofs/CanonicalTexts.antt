@@ -6,14 +6,14 @@ use Rattle.std.proofs.lemmas.Slice.Eq.{bytes_eq-Decides}
 use Rattle.serde_json.specs.Data.{Data}
 use Rattle.json_words.specs.ReadsAs.{◌>>=◌, or_fault, demand}
 use Rattle.json_words.specs.Json.{json_of}
-use Rattle.validator.specs.entities.ancestor_search.Decided.{is_same}
-use Rattle.validator.specs.entities.ancestor_search.Deciding.{same_self}
-use Rattle.validator.specs.entities.schema.Schemas.{StatedSchema}
-use Rattle.validator.specs.entities.entity_data.declared.entity.Entity.{Entity}
+use Rattle.validator.specs.ancestor_search.Decided.{is_same}
+use Rattle.validator.specs.ancestor_search.Deciding.{same_self}
+use Rattle.validator.specs.schema.Schemas.{StatedSchema}
+use Rattle.validator.specs.entity_data.declared.entity.Entity.{Entity}
 use Rattle.validator.specs.entities.Entities.{entity_stated_in}
 use Rattle.validator.specs.entities.Canonical.{canonical_text}
 use Rattle.validator.specs.entities.CanonicalLaws.{CanonicalTextsReadBack}
-use Rattle.message_format.specs.declared.bodies.BodyFault.TheVariants.{Refused, OtherName}
+use Rattle.sync_format.specs.declared.bodies.BodyFault.TheVariants.{Refused, OtherName}
 use Rattle.sync_messages.specs.Texts.{refused_by, entity_of_text, ReadsEntity}
 use Rattle.sync_messages.specs.Laws.{CanonicalTextsAreRead}
 

@@ -1,18 +1,18 @@
 -- The errors of the parser and of the validator, as errors of a text.
 use Rattle.std.specs.Prelude.{◌≡◌, ◌≢◌, ℕ, List}
 use Rattle.std.proofs.Common.{sym, subst}
-use Rattle.message_format.specs.policy_grammar.declared.policy.Policy.{Policy}
-use Rattle.message_format.specs.policy_grammar.declared.fault.ReadFault.{ReadFault}
-use Rattle.message_format.specs.policy_grammar.declared.fault.ReadFault.TheVariants as read
-use Rattle.message_format.specs.policy_grammar.Faults as grammar
-use Rattle.message_format.specs.policy_grammar.PolicyText.{IsPolicyText, IsPolicyRefused}
-use Rattle.validator.specs.entities.schema.Schemas.{StatedSchema}
+use Rattle.sync_format.specs.policy_grammar.declared.policy.Policy.{Policy}
+use Rattle.sync_format.specs.policy_grammar.declared.fault.ReadFault.{ReadFault}
+use Rattle.sync_format.specs.policy_grammar.declared.fault.ReadFault.TheVariants as read
+use Rattle.sync_format.specs.policy_grammar.Faults as grammar
+use Rattle.sync_format.specs.policy_grammar.PolicyText.{IsPolicyText, IsPolicyRefused}
+use Rattle.validator.specs.schema.Schemas.{StatedSchema}
 use Rattle.validator.specs.declared.fault.TypeFault.{TypeFault}
 use Rattle.validator.specs.declared.fault.TypeFault.TheVariants as check
 use Rattle.validator.specs.Faults as validation
 use Rattle.validator.specs.Passing.{IsCheckRefused}
-use Rattle.message_format.specs.declared.bodies.BodyFault.{BodyFault}
-use Rattle.message_format.specs.declared.bodies.BodyFault.TheVariants as body
+use Rattle.sync_format.specs.declared.bodies.BodyFault.{BodyFault}
+use Rattle.sync_format.specs.declared.bodies.BodyFault.TheVariants as body
 use Rattle.plain.specs.AllocationErrors.{OrNoMemory}
 use Rattle.sync_messages.specs.Texts.{RefusesPolicy, no_policy, not_passing}
 

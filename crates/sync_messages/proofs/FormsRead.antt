@@ -7,11 +7,11 @@ use Rattle.serde_json.specs.Data.{Data}
 use Rattle.json_words.specs.Ascending.{DataAscends, JsonAscends}
 use Rattle.json_words.specs.Json.{json_of}
 use Rattle.json_words.specs.ReadsAs.{◌>>=◌, or_fault, demand}
-use Rattle.message_format.specs.declared.version.MessageVersion.{MessageVersion}
-use Rattle.message_format.specs.declared.version.MessageVersion.TheVariants.{One, Two}
-use Rattle.message_format.specs.declared.fault.MessageFault.{MessageFault}
-use Rattle.message_format.specs.declared.fault.MessageFault.TheVariants.{NotJson, BadShape, OtherSchema, Version}
-use Rattle.message_format.specs.Summaries.{number_at, version_in}
+use Rattle.sync_format.specs.declared.version.MessageVersion.{MessageVersion}
+use Rattle.sync_format.specs.declared.version.MessageVersion.TheVariants.{One, Two}
+use Rattle.sync_format.specs.declared.fault.MessageFault.{MessageFault}
+use Rattle.sync_format.specs.declared.fault.MessageFault.TheVariants.{NotJson, BadShape, OtherSchema, Version}
+use Rattle.sync_format.specs.Summaries.{number_at, version_in}
 use Rattle.sync_messages.specs.MessageForms.{HasVersion, number_of, DescribesForm, RefusesForm}
 use Rattle.sync_messages.specs.MessageForms as says
 use Rattle.sync_messages.proofs.Steps.{done, failed, ok_is, never, same_bytes, bytes_same, true_false, untrue, Only}

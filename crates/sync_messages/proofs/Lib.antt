@@ -15,4 +15,5 @@ mod MessagesRead
 mod ReadBackLemmas
 mod SummaryStated
 -- Lemmas of lower crates, re-exported.
+-- of lower layers
 pub use Rattle.validator.proofs.of_grammar_core

@@ -1,13 +1,13 @@
 -- A message of a schema is read by the schema's label and its texts.
 use Rattle.std.proofs.Common.{◌≡◌, ℕ, List, subst}
-use Rattle.message_format.specs.policy_grammar.declared.policy.Policy.{Policy}
-use Rattle.validator.specs.entities.schema.SchemaEntries.{SchemaEntries}
-use Rattle.validator.specs.entities.schema.Views.{schema_view}
-use Rattle.validator.specs.entities.entity_data.declared.entity.Entity.{Entity}
-use Rattle.message_format.specs.declared.fault.MessageFault.{MessageFault}
-use Rattle.message_format.specs.declared.fault.MessageFault.TheVariants as fault
-use Rattle.message_format.specs.declared.update.Update.{Update}
-use Rattle.message_format.specs.Updates.{IsMessage, IsMessageFault}
+use Rattle.sync_format.specs.policy_grammar.declared.policy.Policy.{Policy}
+use Rattle.validator.specs.schema.SchemaEntries.{SchemaEntries}
+use Rattle.validator.specs.schema.Views.{schema_view}
+use Rattle.validator.specs.entity_data.declared.entity.Entity.{Entity}
+use Rattle.sync_format.specs.declared.fault.MessageFault.{MessageFault}
+use Rattle.sync_format.specs.declared.fault.MessageFault.TheVariants as fault
+use Rattle.sync_format.specs.declared.update.Update.{Update}
+use Rattle.sync_format.specs.Updates.{IsMessage, IsMessageFault}
 use Rattle.plain.specs.AllocationErrors.{OrNoMemory}
 use Rattle.sync_messages.specs.Messages.{IsMessageOf, IsMessageFaultOf}
 use Rattle.sync_messages.specs.Texts.{ReadsPolicy, RefusesPolicy, ReadsEntity, RefusesEntity}

@@ -14,24 +14,24 @@ use Rattle.stamped_store.specs.declared.entry.Stamp.{Stamp}
 use Rattle.stamped_store.specs.Reading.{IsBodyRead}
 use Rattle.stamped_store.specs.SiteNames.{IsSiteName, SiteDigitsAreNames}
 use Rattle.stamped_store.specs.Store.{Update as PlainUpdate}
-use Rattle.message_format.specs.policy_grammar.declared.policy.Policy.{Policy}
-use Rattle.message_format.specs.declared.version.MessageVersion.{MessageVersion}
-use Rattle.message_format.specs.declared.bodies.BodyFault.{BodyFault}
-use Rattle.message_format.specs.declared.fault.MessageFault.{MessageFault}
-use Rattle.message_format.specs.declared.update.Update.{Update}
-use Rattle.message_format.specs.declared.update.Update.TheVariants as update
-use Rattle.message_format.specs.Summaries.{IsName, IsStamped, checked_stamp}
-use Rattle.message_format.specs.Messages.{updates_stated}
-use Rattle.message_format.specs.Updates.{plain_updates, stamped, AreInRange, fault_at, IsUpdateRead, IsReadable, IsUnreadable, IsBodyFault, IsFirstFault}
-use Rattle.message_format.proofs.Outcomes.{Passes, one_message, one_refusal, never_both, some_outcome}
-use Rattle.message_format.proofs.Taking.{Sound}
-use Rattle.validator.specs.entities.schema.Schemas.{StatedSchema}
-use Rattle.validator.specs.entities.entity_data.declared.entity.Entity.{Entity}
+use Rattle.sync_format.specs.policy_grammar.declared.policy.Policy.{Policy}
+use Rattle.sync_format.specs.declared.version.MessageVersion.{MessageVersion}
+use Rattle.sync_format.specs.declared.bodies.BodyFault.{BodyFault}
+use Rattle.sync_format.specs.declared.fault.MessageFault.{MessageFault}
+use Rattle.sync_format.specs.declared.update.Update.{Update}
+use Rattle.sync_format.specs.declared.update.Update.TheVariants as update
+use Rattle.sync_format.specs.Summaries.{IsName, IsStamped, checked_stamp}
+use Rattle.sync_format.specs.Messages.{updates_stated}
+use Rattle.sync_format.specs.Updates.{plain_updates, stamped, AreInRange, fault_at, IsUpdateRead, IsReadable, IsUnreadable, IsBodyFault, IsFirstFault}
+use Rattle.sync_format.proofs.Outcomes.{Passes, one_message, one_refusal, never_both, some_outcome}
+use Rattle.sync_format.proofs.Taking.{Sound}
+use Rattle.validator.specs.schema.Schemas.{StatedSchema}
+use Rattle.validator.specs.entity_data.declared.entity.Entity.{Entity}
 use Rattle.sync_messages.specs.Laws.{PoliciesHaveOneReading, EntitiesHaveOneReading}
 use Rattle.sync_messages.specs.Texts.{ReadsPolicy, RefusesPolicy, ReadsEntity, RefusesEntity}
 use Rattle.sync_messages.specs.Messages.{IsMessageOf, IsMessageFaultOf}
 use Rattle.validator.specs.entities.ParsingLaws.{EntitiesAreRead}
-use Rattle.validator.specs.entities.schema.Agreement.{HasOneOutcome}
+use Rattle.validator.specs.schema.Agreement.{HasOneOutcome}
 use Rattle.sync_messages.specs.MessageForms.{DescribesName, DescribesSite}
 use Rattle.sync_messages.specs.MessageForms as form
 use Rattle.sync_messages.specs.StatedUpdates.{DescribesEntry, DescribesUpdates}

@@ -1,7 +1,7 @@
 -- One outcome, and the function that gives it.
 use Rattle.std.proofs.Common.{◌≡◌, ◌∙◌, Result, sym, subst, inl, inr}
 use Rattle.std.specs.Prelude.{◌⊎◌}
-use Rattle.validator.specs.entities.schema.Agreement.{Gives, HasOneOutcome}
+use Rattle.validator.specs.schema.Agreement.{Gives, HasOneOutcome}
 use Rattle.sync_messages.proofs.Steps.{done, failed, ok_is, err_is, never}
 
 module _ {A F : Type 0} (r : Result A F) (Describes : A → Type 0) (Refuses : F → Type 0)

@@ -20,14 +20,14 @@ use Rattle.values.specs.declared.entity_uid.EntityUid.{EntityUid}
 use Rattle.stamped_store.specs.declared.entry.Stamp.{Stamp}
 use Rattle.stamped_store.specs.Raised.{IsSiteNumber}
 use Rattle.stamped_store.specs.SiteNames.{IsSiteName, SiteTestIsExact, SiteDigitsAreNames, is_site_name, five_digits}
-use Rattle.message_format.specs.entity_uids.Uids.{IsUid, IsPlainUid, uid_in, uid_json}
-use Rattle.message_format.specs.entity_uids.Laws.{UidsAreFound}
-use Rattle.message_format.specs.declared.version.MessageVersion.{MessageVersion}
-use Rattle.message_format.specs.declared.version.MessageVersion.TheVariants.{One, Two}
-use Rattle.message_format.specs.declared.fault.MessageFault.{MessageFault}
-use Rattle.message_format.specs.declared.fault.MessageFault.TheVariants.{BadShape}
-use Rattle.message_format.specs.Summaries.{IsName, StampAt, name_json, number_at, policy_in, entity_name_in, name_in}
-use Rattle.message_format.specs.Summaries.{numbered_in, raised_in, named_in, site_in, stamped_by, stamped_in}
+use Rattle.sync_format.specs.entity_uids.Uids.{IsUid, IsPlainUid, uid_in, uid_json}
+use Rattle.sync_format.specs.entity_uids.Laws.{UidsAreFound}
+use Rattle.sync_format.specs.declared.version.MessageVersion.{MessageVersion}
+use Rattle.sync_format.specs.declared.version.MessageVersion.TheVariants.{One, Two}
+use Rattle.sync_format.specs.declared.fault.MessageFault.{MessageFault}
+use Rattle.sync_format.specs.declared.fault.MessageFault.TheVariants.{BadShape}
+use Rattle.sync_format.specs.Summaries.{IsName, StampAt, name_json, number_at, policy_in, entity_name_in, name_in}
+use Rattle.sync_format.specs.Summaries.{numbered_in, raised_in, named_in, site_in, stamped_by, stamped_in}
 use Rattle.sync_messages.specs.MessageForms.{DescribesName, DescribesSite}
 use Rattle.sync_messages.specs.MessageForms as says
 use Rattle.sync_messages.proofs.Steps.{done, ok_is, none_some, some_is, some_of, passes, Only, only_ok, only_bind, only_demand, only_or}

@@ -9,9 +9,9 @@ use Rattle.values.specs.declared.name.Name.{Name}
 use Rattle.values.specs.declared.name.Name.TheVariants.{Policy, Entity}
 use Rattle.stamped_store.specs.declared.entry.Stamp.{Stamp}
 use Rattle.stamped_store.specs.Deltas.{Summary}
-use Rattle.message_format.specs.declared.fault.MessageFault.{MessageFault}
-use Rattle.message_format.specs.declared.fault.MessageFault.TheVariants.{CountRange, BadEntry}
-use Rattle.message_format.specs.Summaries.{is_name_in_range, bad_id, checked_stamp}
+use Rattle.sync_format.specs.declared.fault.MessageFault.{MessageFault}
+use Rattle.sync_format.specs.declared.fault.MessageFault.TheVariants.{CountRange, BadEntry}
+use Rattle.sync_format.specs.Summaries.{is_name_in_range, bad_id, checked_stamp}
 use Rattle.sync_messages.specs.StatedSummaries.{CountFits, IdFits, Fits, RefusesRanges, RefusesStamps}
 use Rattle.sync_messages.specs.StatedSummaries as says
 use Rattle.sync_messages.proofs.Steps.{done, failed, true_false, untrue}

@@ -3,13 +3,13 @@ use Rattle.std.proofs.Common.{◌≡◌, ℕ, List, [], ◌∷◌, Ok}
 use Rattle.std.specs.List.{AllByRecursion}
 use Rattle.values.specs.declared.entity_uid.EntityUid.{EntityUid}
 use Rattle.stamped_store.specs.Store.{Store, Update as PlainUpdate, updates}
-use Rattle.message_format.specs.policy_grammar.declared.policy.Policy.{Policy}
-use Rattle.message_format.specs.Messages.{updates_stated}
-use Rattle.message_format.specs.Updates.{AreValid}
-use Rattle.message_format.proofs.Outcomes.{valid_read}
-use Rattle.validator.specs.entities.schema.Schemas.{StatedSchema}
-use Rattle.validator.specs.entities.schema.Agreement.{HasOneOutcome}
-use Rattle.validator.specs.entities.entity_data.declared.entity.Entity.{Entity}
+use Rattle.sync_format.specs.policy_grammar.declared.policy.Policy.{Policy}
+use Rattle.sync_format.specs.Messages.{updates_stated}
+use Rattle.sync_format.specs.Updates.{AreValid}
+use Rattle.sync_format.proofs.Outcomes.{valid_read}
+use Rattle.validator.specs.schema.Schemas.{StatedSchema}
+use Rattle.validator.specs.schema.Agreement.{HasOneOutcome}
+use Rattle.validator.specs.entity_data.declared.entity.Entity.{Entity}
 use Rattle.sync_messages.specs.Texts.{ReadsPolicy, ReadsEntity}
 use Rattle.sync_messages.specs.StatedTexts.{DescribesText}
 use Rattle.sync_messages.specs.StatedMessages.{HasBody, DescribesMessage, RefusesMessage}

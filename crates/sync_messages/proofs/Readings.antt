@@ -3,19 +3,19 @@
 use Rattle.std.specs.Prelude.{◌≡◌, ◌⊎◌, ℕ, List, Result, Ok, Err}
 use Rattle.std.proofs.Common.{inl, inr, ap, sym, subst, ◌∙◌, refl}
 use Rattle.values.specs.declared.entity_uid.EntityUid.{EntityUid}
-use Rattle.message_format.specs.policy_grammar.declared.policy.Policy.{Policy}
-use Rattle.message_format.specs.policy_grammar.Faults as grammar
-use Rattle.message_format.specs.policy_grammar.PolicyText.{IsPolicyText, IsPolicyRefused}
-use Rattle.message_format.specs.policy_grammar.Unique.{HasOneReading}
-use Rattle.validator.specs.entities.schema.Schemas.{StatedSchema}
+use Rattle.sync_format.specs.policy_grammar.declared.policy.Policy.{Policy}
+use Rattle.sync_format.specs.policy_grammar.Faults as grammar
+use Rattle.sync_format.specs.policy_grammar.PolicyText.{IsPolicyText, IsPolicyRefused}
+use Rattle.sync_format.specs.policy_grammar.Unique.{HasOneReading}
+use Rattle.validator.specs.schema.Schemas.{StatedSchema}
 use Rattle.validator.specs.declared.fault.TypeFault.{TypeFault}
 use Rattle.validator.specs.Faults as validation
 use Rattle.validator.specs.Passing.{Passes, IsCheckRefused}
 use Rattle.validator.specs.Outcomes.{PoliciesHaveOneOutcome, PassingIsNotRefused, CheckResult, IsCheckResult, passes}
 use Rattle.validator.specs.Outcomes.{refused}
-use Rattle.message_format.specs.declared.bodies.BodyFault.{BodyFault}
-use Rattle.message_format.specs.declared.bodies.BodyFault.TheVariants as body
-use Rattle.message_format.specs.Bodies.{HasAtMostOneOutcome, HasOutcome}
+use Rattle.sync_format.specs.declared.bodies.BodyFault.{BodyFault}
+use Rattle.sync_format.specs.declared.bodies.BodyFault.TheVariants as body
+use Rattle.sync_format.specs.Bodies.{HasAtMostOneOutcome, HasOutcome}
 use Rattle.sync_messages.specs.Texts.{ReadsPolicy, RefusesPolicy, no_policy, not_passing}
 use Rattle.sync_messages.specs.Texts.{entity_of_text, ReadsEntity, RefusesEntity}
 

@@ -20,12 +20,12 @@ use Rattle.values.specs.declared.name.Name.{Name}
 use Rattle.values.specs.Names.{name_cmp, name_cmp-IsTotalOrder}
 use Rattle.stamped_store.specs.declared.entry.Stamp.{Stamp}
 use Rattle.stamped_store.specs.Deltas.{Summary}
-use Rattle.message_format.specs.declared.version.MessageVersion.{MessageVersion}
-use Rattle.message_format.specs.declared.version.MessageVersion.TheVariants.{Two}
-use Rattle.message_format.specs.declared.fault.MessageFault.{MessageFault}
-use Rattle.message_format.specs.declared.fault.MessageFault.TheVariants.{NotJson, BadShape, OtherSchema}
-use Rattle.message_format.specs.Summaries.{ascend, stamp_json, summary_json, stamped_in, stamp_in, stamps_of, stamps_in, checked_stamp, version_in, summary_in, summary_stated}
-use Rattle.validator.specs.entities.schema.Agreement.{Gives, HasOneOutcome}
+use Rattle.sync_format.specs.declared.version.MessageVersion.{MessageVersion}
+use Rattle.sync_format.specs.declared.version.MessageVersion.TheVariants.{Two}
+use Rattle.sync_format.specs.declared.fault.MessageFault.{MessageFault}
+use Rattle.sync_format.specs.declared.fault.MessageFault.TheVariants.{NotJson, BadShape, OtherSchema}
+use Rattle.sync_format.specs.Summaries.{ascend, stamp_json, summary_json, stamped_in, stamp_in, stamps_of, stamps_in, checked_stamp, version_in, summary_in, summary_stated}
+use Rattle.validator.specs.schema.Agreement.{Gives, HasOneOutcome}
 use Rattle.sync_messages.specs.MessageForms.{DescribesName, DescribesSite, HasVersion, number_of, DescribesForm, RefusesForm}
 use Rattle.sync_messages.specs.StatedSummaries.{DescribesStamp, names_of, IsSummary, RefusesStamps, DescribesSummary, RefusesSummary}
 use Rattle.sync_messages.specs.StatedSummaries as says

@@ -7,18 +7,18 @@ use Rattle.json_words.specs.Json.{json_of}
 use Rattle.json_words.specs.ReadsAs.{◌>>=◌, or_fault, demand}
 use Rattle.values.specs.declared.entity_uid.EntityUid.{EntityUid}
 use Rattle.values.specs.Uids.{uid_cmp-IsTotalOrder, uid_cmp-IsAntisymmetric, equal-is}
-use Rattle.message_format.specs.declared.bodies.BodyFault.{BodyFault}
-use Rattle.message_format.specs.declared.bodies.BodyFault.TheVariants.{Refused, OtherName}
-use Rattle.validator.specs.entities.schema.Schemas.{StatedSchema}
-use Rattle.validator.specs.entities.ancestor_search.Decided.{is_same}
-use Rattle.validator.specs.entities.entity_data.declared.entity.Entity.{Entity}
+use Rattle.sync_format.specs.declared.bodies.BodyFault.{BodyFault}
+use Rattle.sync_format.specs.declared.bodies.BodyFault.TheVariants.{Refused, OtherName}
+use Rattle.validator.specs.schema.Schemas.{StatedSchema}
+use Rattle.validator.specs.ancestor_search.Decided.{is_same}
+use Rattle.validator.specs.entity_data.declared.entity.Entity.{Entity}
 use Rattle.validator.specs.entities.declared.fault.EntityFault.{EntityFault}
 use Rattle.validator.specs.entities.Faults.{code_of}
 use Rattle.validator.specs.entities.Entities.{entity_stated_in}
 use Rattle.validator.specs.entities.Canonical.{canonical_text}
 use Rattle.sync_messages.specs.Texts.{refused_by, entity_of_text}
 use Rattle.validator.specs.entities.StatedEntities.{DescribesEntity}
-use Rattle.validator.specs.entities.schema.Agreement.{Gives}
+use Rattle.validator.specs.schema.Agreement.{Gives}
 use Rattle.validator.specs.entities.ParsingLaws.{EntitiesAreRead}
 use Rattle.sync_messages.specs.StatedTexts.{DescribesText, RefusesText}
 use Rattle.sync_messages.specs.StatedTexts as says

@@ -18,14 +18,14 @@ use Rattle.values.specs.declared.name.Name.{Name}
 use Rattle.values.specs.declared.name.Name.TheVariants as name
 use Rattle.stamped_store.specs.declared.entry.Stamp.{Stamp}
 use Rattle.stamped_store.specs.Store.{Update, issued}
-use Rattle.message_format.specs.declared.version.MessageVersion.{MessageVersion}
-use Rattle.message_format.specs.declared.version.MessageVersion.TheVariants.{One, Two}
-use Rattle.message_format.specs.declared.fault.MessageFault.{MessageFault}
-use Rattle.message_format.specs.declared.fault.MessageFault.TheVariants.{NotJson, BadShape, OtherSchema}
-use Rattle.message_format.specs.Summaries.{name_json, stamped_in, version_in}
-use Rattle.message_format.specs.Messages.{body_json, entry_json, message_json, text_in, body_in, entry_by, entry_in, entries_of, entries_by, entries_in, is_kind}
-use Rattle.message_format.specs.Messages.{updates_by, updates_in, updates_stated}
-use Rattle.validator.specs.entities.schema.Agreement.{Gives, HasOneOutcome}
+use Rattle.sync_format.specs.declared.version.MessageVersion.{MessageVersion}
+use Rattle.sync_format.specs.declared.version.MessageVersion.TheVariants.{One, Two}
+use Rattle.sync_format.specs.declared.fault.MessageFault.{MessageFault}
+use Rattle.sync_format.specs.declared.fault.MessageFault.TheVariants.{NotJson, BadShape, OtherSchema}
+use Rattle.sync_format.specs.Summaries.{name_json, stamped_in, version_in}
+use Rattle.sync_format.specs.Messages.{body_json, entry_json, message_json, text_in, body_in, entry_by, entry_in, entries_of, entries_by, entries_in, is_kind}
+use Rattle.sync_format.specs.Messages.{updates_by, updates_in, updates_stated}
+use Rattle.validator.specs.schema.Agreement.{Gives, HasOneOutcome}
 use Rattle.sync_messages.specs.MessageForms.{DescribesName, DescribesSite, HasVersion, number_of}
 use Rattle.sync_messages.specs.MessageForms as says
 use Rattle.sync_messages.specs.StatedUpdates.{DescribesEntry, IsUpdates, DescribesUpdates, RefusesUpdates}

@@ -2,13 +2,13 @@
 -- texts are parsed as their entities.
 use Rattle.std.specs.Prelude.{ℕ, List}
 use Rattle.values.specs.declared.entity_uid.EntityUid.{EntityUid}
-use Rattle.validator.specs.entities.schema.Schemas.{StatedSchema}
-use Rattle.validator.specs.entities.schema.WellFormed.{IsWellFormed}
-use Rattle.validator.specs.entities.entity_data.declared.entity.Entity.{Entity}
+use Rattle.validator.specs.schema.Schemas.{StatedSchema}
+use Rattle.validator.specs.schema.WellFormed.{IsWellFormed}
+use Rattle.validator.specs.entity_data.declared.entity.Entity.{Entity}
 use Rattle.validator.specs.entities.Canonical.{canonical_text}
 use Rattle.validator.specs.entities.CanonicalLaws.{IsReadFrom}
-use Rattle.message_format.specs.declared.bodies.BodyFault.TheVariants.{OtherName}
-use Rattle.message_format.specs.Bodies.{HasAtMostOneOutcome, HasOutcome}
+use Rattle.sync_format.specs.declared.bodies.BodyFault.TheVariants.{OtherName}
+use Rattle.sync_format.specs.Bodies.{HasAtMostOneOutcome, HasOutcome}
 use Rattle.sync_messages.specs.Texts.{ReadsPolicy, RefusesPolicy, ReadsEntity, RefusesEntity}
 
 -- `PoliciesHaveOneReading`: each text of a policy has exactly one outcome: one policy that passes validation, or one

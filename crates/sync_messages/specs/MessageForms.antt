@@ -12,11 +12,11 @@ use Rattle.values.specs.declared.name.Name.{Name}
 use Rattle.values.specs.declared.name.Name.TheVariants.{Policy, Entity}
 use Rattle.stamped_store.specs.Raised.{IsSiteNumber}
 use Rattle.stamped_store.specs.SiteNames.{IsSiteName, five_digits}
-use Rattle.message_format.specs.declared.version.MessageVersion.{MessageVersion}
-use Rattle.message_format.specs.declared.version.MessageVersion.TheVariants.{One, Two}
-use Rattle.message_format.specs.declared.fault.MessageFault.{MessageFault}
-use Rattle.message_format.specs.declared.fault.MessageFault.TheVariants.{NotJson, BadShape, OtherSchema, Version}
-use Rattle.message_format.specs.Summaries.{name_json}
+use Rattle.sync_format.specs.declared.version.MessageVersion.{MessageVersion}
+use Rattle.sync_format.specs.declared.version.MessageVersion.TheVariants.{One, Two}
+use Rattle.sync_format.specs.declared.fault.MessageFault.{MessageFault}
+use Rattle.sync_format.specs.declared.fault.MessageFault.TheVariants.{NotJson, BadShape, OtherSchema, Version}
+use Rattle.sync_format.specs.Summaries.{name_json}
 
 -- ---- parts
 

@@ -3,12 +3,12 @@
 -- count, name and site in their ranges. A valid update is a tombstone, or has a text that can be parsed under the
 -- schema and the update's name.
 use Rattle.std.specs.Prelude.{ℕ, List}
-use Rattle.message_format.specs.policy_grammar.declared.policy.Policy.{Policy}
-use Rattle.validator.specs.entities.schema.Schemas.{StatedSchema}
-use Rattle.validator.specs.entities.entity_data.declared.entity.Entity.{Entity}
-use Rattle.message_format.specs.declared.fault.MessageFault.{MessageFault}
-use Rattle.message_format.specs.declared.update.Update.{Update}
-use Rattle.message_format.specs.Updates.{IsMessage, IsMessageFault}
+use Rattle.sync_format.specs.policy_grammar.declared.policy.Policy.{Policy}
+use Rattle.validator.specs.schema.Schemas.{StatedSchema}
+use Rattle.validator.specs.entity_data.declared.entity.Entity.{Entity}
+use Rattle.sync_format.specs.declared.fault.MessageFault.{MessageFault}
+use Rattle.sync_format.specs.declared.update.Update.{Update}
+use Rattle.sync_format.specs.Updates.{IsMessage, IsMessageFault}
 use Rattle.sync_messages.specs.Texts.{ReadsPolicy, RefusesPolicy, ReadsEntity, RefusesEntity}
 
 -- `IsMessageOf schema bytes us` holds if `bytes` are a state or delta of `schema` with the updates `us`, in this

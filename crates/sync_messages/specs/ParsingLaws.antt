@@ -6,16 +6,16 @@ use Rattle.json_words.specs.Json.{json_of}
 use Rattle.values.specs.declared.entity_uid.EntityUid.{EntityUid}
 use Rattle.stamped_store.specs.Store.{Update as PlainUpdate}
 use Rattle.stamped_store.specs.Deltas.{Summary}
-use Rattle.message_format.specs.policy_grammar.declared.policy.Policy.{Policy}
-use Rattle.message_format.specs.declared.fault.MessageFault.{MessageFault}
-use Rattle.message_format.specs.declared.update.Update.{Update}
-use Rattle.message_format.specs.Messages.{updates_stated, message_json}
-use Rattle.message_format.specs.Summaries.{summary_stated, summary_json}
-use Rattle.validator.specs.entities.schema.Schemas.{StatedSchema}
-use Rattle.validator.specs.entities.entity_data.declared.entity.Entity.{Entity}
+use Rattle.sync_format.specs.policy_grammar.declared.policy.Policy.{Policy}
+use Rattle.sync_format.specs.declared.fault.MessageFault.{MessageFault}
+use Rattle.sync_format.specs.declared.update.Update.{Update}
+use Rattle.sync_format.specs.Messages.{updates_stated, message_json}
+use Rattle.sync_format.specs.Summaries.{summary_stated, summary_json}
+use Rattle.validator.specs.schema.Schemas.{StatedSchema}
+use Rattle.validator.specs.entity_data.declared.entity.Entity.{Entity}
 use Rattle.sync_messages.specs.Texts.{entity_of_text}
 use Rattle.sync_messages.specs.Messages.{IsMessageOf, IsMessageFaultOf}
-use Rattle.validator.specs.entities.schema.Agreement.{Gives, HasOneOutcome}
+use Rattle.validator.specs.schema.Agreement.{Gives, HasOneOutcome}
 use Rattle.sync_messages.specs.MessageForms.{HasVersion}
 use Rattle.sync_messages.specs.StatedUpdates.{DescribesUpdates, RefusesUpdates}
 use Rattle.sync_messages.specs.StatedSummaries.{DescribesSummary, RefusesSummary}
@@ -24,7 +24,7 @@ use Rattle.sync_messages.specs.StatedMessages.{DescribesMessage, RefusesMessage}
 
 -- ---- states and deltas, before their texts are parsed
 
--- `UpdatesAreRead`: the parsing function `updates_stated label bytes` (of `message_format`) gives the updates that
+-- `UpdatesAreRead`: the parsing function `updates_stated label bytes` (of `sync_format`) gives the updates that
 -- `bytes` describe for the schema with the label `label`, or the error with which `bytes` are rejected.
 abbrev pub UpdatesAreRead : Type 0
 UpdatesAreRead = (label bytes : List ℕ)
@@ -45,7 +45,7 @@ UpdatesAreWritten = (label bytes : List ℕ) (d : Data) (us : List PlainUpdate) 
 
 -- ---- summaries
 
--- `SummariesAreRead`: the parsing function `summary_stated label bytes` (of `message_format`) gives the summary that
+-- `SummariesAreRead`: the parsing function `summary_stated label bytes` (of `sync_format`) gives the summary that
 -- `bytes` describe for the schema with the label `label`, or the error with which `bytes` are rejected.
 abbrev pub SummariesAreRead : Type 0
 SummariesAreRead = (label bytes : List ℕ)

@@ -5,14 +5,14 @@ use Rattle.std.specs.Prelude.{◌≡◌, ℕ, List}
 use Rattle.std.specs.List.{AllByRecursion}
 use Rattle.std.specs.Str.{IsUtf8}
 use Rattle.stamped_store.specs.Store.{Store, updates}
-use Rattle.message_format.specs.policy_grammar.declared.policy.Policy.{Policy}
-use Rattle.message_format.specs.declared.fault.MessageFault.{MessageFault}
-use Rattle.message_format.specs.declared.update.Update.{Update}
-use Rattle.message_format.specs.Messages.{state_text, delta_text}
-use Rattle.message_format.specs.Texts.{AreTexts}
-use Rattle.message_format.specs.Updates.{AreInRange, plain_updates}
-use Rattle.validator.specs.entities.schema.Schemas.{StatedSchema}
-use Rattle.validator.specs.entities.entity_data.declared.entity.Entity.{Entity}
+use Rattle.sync_format.specs.policy_grammar.declared.policy.Policy.{Policy}
+use Rattle.sync_format.specs.declared.fault.MessageFault.{MessageFault}
+use Rattle.sync_format.specs.declared.update.Update.{Update}
+use Rattle.sync_format.specs.Messages.{state_text, delta_text}
+use Rattle.sync_format.specs.Texts.{AreTexts}
+use Rattle.sync_format.specs.Updates.{AreInRange, plain_updates}
+use Rattle.validator.specs.schema.Schemas.{StatedSchema}
+use Rattle.validator.specs.entity_data.declared.entity.Entity.{Entity}
 use Rattle.sync_messages.specs.StatedMessages.{HasBody, DescribesMessage, RefusesMessage}
 
 -- `HasValidUpdates s m` holds if each update of the store `m` is valid under the schema `s`, with its name, count and

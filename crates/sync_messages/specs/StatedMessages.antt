@@ -6,13 +6,13 @@
 use Rattle.std.specs.Prelude.{ℕ, suc, List, ◌∷◌}
 use Rattle.std.specs.List.{AllByRecursion}
 use Rattle.stamped_store.specs.Store.{Update as PlainUpdate}
-use Rattle.message_format.specs.policy_grammar.declared.policy.Policy.{Policy}
-use Rattle.message_format.specs.declared.bodies.BodyFault.{BodyFault}
-use Rattle.message_format.specs.declared.fault.MessageFault.{MessageFault}
-use Rattle.message_format.specs.declared.update.Update.{Update}
-use Rattle.message_format.specs.Updates.{plain_updates, stamped, fault_at, IsUpdateRead, IsValid, IsUnreadable}
-use Rattle.validator.specs.entities.schema.Schemas.{StatedSchema}
-use Rattle.validator.specs.entities.entity_data.declared.entity.Entity.{Entity}
+use Rattle.sync_format.specs.policy_grammar.declared.policy.Policy.{Policy}
+use Rattle.sync_format.specs.declared.bodies.BodyFault.{BodyFault}
+use Rattle.sync_format.specs.declared.fault.MessageFault.{MessageFault}
+use Rattle.sync_format.specs.declared.update.Update.{Update}
+use Rattle.sync_format.specs.Updates.{plain_updates, stamped, fault_at, IsUpdateRead, IsValid, IsUnreadable}
+use Rattle.validator.specs.schema.Schemas.{StatedSchema}
+use Rattle.validator.specs.entity_data.declared.entity.Entity.{Entity}
 use Rattle.sync_messages.specs.Texts.{ReadsPolicy, RefusesPolicy}
 use Rattle.sync_messages.specs.StatedUpdates.{DescribesUpdates, RefusesUpdates}
 use Rattle.sync_messages.specs.StatedSummaries.{Fits, RefusesRanges}

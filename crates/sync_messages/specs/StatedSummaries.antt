@@ -14,9 +14,9 @@ use Rattle.values.specs.declared.name.Name.TheVariants.{Policy, Entity}
 use Rattle.values.specs.Names.{name_cmp}
 use Rattle.stamped_store.specs.declared.entry.Stamp.{Stamp}
 use Rattle.stamped_store.specs.Deltas.{Summary}
-use Rattle.message_format.specs.declared.version.MessageVersion.{MessageVersion}
-use Rattle.message_format.specs.declared.fault.MessageFault.{MessageFault}
-use Rattle.message_format.specs.declared.fault.MessageFault.TheVariants.{CountRange, BadEntry}
+use Rattle.sync_format.specs.declared.version.MessageVersion.{MessageVersion}
+use Rattle.sync_format.specs.declared.fault.MessageFault.{MessageFault}
+use Rattle.sync_format.specs.declared.fault.MessageFault.TheVariants.{CountRange, BadEntry}
 use Rattle.sync_messages.specs.MessageForms.{DescribesName, DescribesSite, number_of, DescribesForm, RefusesForm}
 
 -- ---- the form

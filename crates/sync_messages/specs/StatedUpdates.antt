@@ -7,9 +7,9 @@ use Rattle.std.specs.List.{AllZip}
 use Rattle.serde_json.specs.Data.{Data, number, unsigned, string, array, object, Items, no_members, member}
 use Rattle.json_words.specs.Each.{list_of}
 use Rattle.stamped_store.specs.Store.{Update}
-use Rattle.message_format.specs.declared.version.MessageVersion.{MessageVersion}
-use Rattle.message_format.specs.declared.fault.MessageFault.{MessageFault}
-use Rattle.message_format.specs.Messages.{body_json}
+use Rattle.sync_format.specs.declared.version.MessageVersion.{MessageVersion}
+use Rattle.sync_format.specs.declared.fault.MessageFault.{MessageFault}
+use Rattle.sync_format.specs.Messages.{body_json}
 use Rattle.sync_messages.specs.MessageForms.{DescribesName, DescribesSite, number_of, DescribesForm, RefusesForm}
 
 -- `DescribesEntry version d u` holds if `d` is {"body":null or a text,"count":n,"name":N,"site":S} in the form of

@@ -8,13 +8,13 @@ use Rattle.std.specs.Str.{bytes_eq}
 use Rattle.json_words.specs.ReadsAs.{◌>>=◌, or_fault, demand}
 use Rattle.json_words.specs.Json.{json_of}
 use Rattle.values.specs.declared.entity_uid.EntityUid.{EntityUid}
-use Rattle.validator.specs.entities.ancestor_search.Decided.{is_same}
-use Rattle.message_format.specs.policy_grammar.declared.policy.Policy.{Policy}
-use Rattle.message_format.specs.policy_grammar.declared.fault.ReadFault.{ReadFault}
-use Rattle.message_format.specs.policy_grammar.Faults as grammar
-use Rattle.message_format.specs.policy_grammar.PolicyText.{IsPolicyText, IsPolicyRefused}
-use Rattle.validator.specs.entities.schema.Schemas.{StatedSchema}
-use Rattle.validator.specs.entities.entity_data.declared.entity.Entity.{Entity}
+use Rattle.validator.specs.ancestor_search.Decided.{is_same}
+use Rattle.sync_format.specs.policy_grammar.declared.policy.Policy.{Policy}
+use Rattle.sync_format.specs.policy_grammar.declared.fault.ReadFault.{ReadFault}
+use Rattle.sync_format.specs.policy_grammar.Faults as grammar
+use Rattle.sync_format.specs.policy_grammar.PolicyText.{IsPolicyText, IsPolicyRefused}
+use Rattle.validator.specs.schema.Schemas.{StatedSchema}
+use Rattle.validator.specs.entity_data.declared.entity.Entity.{Entity}
 use Rattle.validator.specs.entities.declared.fault.EntityFault.{EntityFault}
 use Rattle.validator.specs.entities.Faults as entities
 use Rattle.validator.specs.entities.Entities.{entity_stated_in}
@@ -22,8 +22,8 @@ use Rattle.validator.specs.entities.Canonical.{canonical_text}
 use Rattle.validator.specs.declared.fault.TypeFault.{TypeFault}
 use Rattle.validator.specs.Faults as validation
 use Rattle.validator.specs.Passing.{Passes, IsCheckRefused}
-use Rattle.message_format.specs.declared.bodies.BodyFault.{BodyFault}
-use Rattle.message_format.specs.declared.bodies.BodyFault.TheVariants.{Refused, OtherName}
+use Rattle.sync_format.specs.declared.bodies.BodyFault.{BodyFault}
+use Rattle.sync_format.specs.declared.bodies.BodyFault.TheVariants.{Refused, OtherName}
 
 -- ---- policies: neither the id under which a text is stored nor its `@id` matters
 

@@ -5,8 +5,8 @@ ghost use Rattle.sync_messages.specs.ParsingLaws.{TextsAreRead, MessagesAreRead,
 
 use crate::laws::stored_texts_have_one_reading;
 use json_words::json_keys_ascend;
-use message_format::{names_read_back, stamps_read_back};
 use stamped_store::laws::site_names_are_recognized;
+use sync_format::{names_read_back, stamps_read_back};
 use validator::entities_are_read_as_stated;
 
 /// Proves that parsing a state or delta gives the updates that bytes describe, or the first error, before the ranges

@@ -4,7 +4,7 @@ ghost use Rattle.sync_messages.specs.Laws.{PoliciesHaveNoOtherName, CanonicalTex
 ghost use Rattle.sync_messages.specs.ReadBack.{StatesReadBack, DeltasReadBack};
 
 use crate::as_stated::{entity_texts_are_read_as_stated, messages_are_read_as_stated};
-use message_format::messages_read_back;
+use sync_format::messages_read_back;
 use validator::policies_have_one_outcome;
 
 /// Proves that under a schema each text has exactly one outcome. As a policy it gives one policy that passes
@@ -16,7 +16,7 @@ pub fn stored_texts_have_one_reading()
     ensures entities { EntitiesHaveOneReading }
     ensures named { PoliciesHaveNoOtherName }
 {
-    message_format::texts_have_one_reading();
+    sync_format::texts_have_one_reading();
     policies_have_one_outcome();
 }
 

@@ -5,11 +5,11 @@ ghost use Rattle.json_words.specs.ReadsAs.{ReadsAs};
 ghost use Rattle.plain.specs.AllocationErrors.{OrNoMemory};
 ghost use Rattle.stamped_store.specs.Deltas.{delta, summary_of};
 ghost use Rattle.stamped_store.specs.Store.{abstract_store, updates};
-ghost use Rattle.message_format.specs.declared.fault.MessageFault.TheVariants as MessageFault;
-ghost use Rattle.message_format.specs.Messages.{state_json, state_text, delta_json, delta_text, updates_stated};
-ghost use Rattle.message_format.specs.Summaries.{AreStamped, summary_stated, summary_text};
-ghost use Rattle.message_format.specs.Updates.{AreInRange};
-ghost use Rattle.validator.specs.entities.schema.Views.{schema_view};
+ghost use Rattle.sync_format.specs.declared.fault.MessageFault.TheVariants as MessageFault;
+ghost use Rattle.sync_format.specs.Messages.{state_json, state_text, delta_json, delta_text, updates_stated};
+ghost use Rattle.sync_format.specs.Summaries.{AreStamped, summary_stated, summary_text};
+ghost use Rattle.sync_format.specs.Updates.{AreInRange};
+ghost use Rattle.validator.specs.schema.Views.{schema_view};
 ghost use Rattle.sync_messages.specs.Messages.{IsMessageOf, IsMessageFaultOf};
 ghost use Rattle.sync_messages.specs.ReadBack.{HasValidUpdates, DescribesStore};
 ghost use Rattle.sync_messages.specs.StatedMessages.{DescribesMessage, RefusesMessage};
@@ -19,9 +19,10 @@ use crate::as_stated::{
     entity_texts_are_read_as_stated, messages_are_read_as_stated, summaries_are_read_as_stated,
 };
 use crate::texts::SchemaTexts;
-use message_format::{MessageFault, Policy, StampedStore, Summary, Update, read_message_by};
 use plain::NoMemory;
+use stamped_store::StampedStore;
 use std::alloc::Global;
+use sync_format::{MessageFault, Policy, Summary, Update, read_message_by};
 use validator::{Entity, Schema};
 
 /// Parses a state or a delta under a schema.
@@ -58,7 +59,7 @@ pub fn read_message(
 ///
 /// # Errors
 ///
-/// - 50 to 55: the first error of the summary, in the order of [`message_format::read_summary`].
+/// - 50 to 55: the first error of the summary, in the order of [`sync_format::read_summary`].
 /// - `NoMemory` (1): an allocation failed; possible at any point.
 pub fn read_summary(alloc: Global, schema: &Schema, bytes: &[u8]) -> Result<Summary, MessageFault>
     ensures read { ReadsAs MessageFault.NoMemory (λ m. m) result
@@ -67,7 +68,7 @@ pub fn read_summary(alloc: Global, schema: &Schema, bytes: &[u8]) -> Result<Summ
         (OrNoMemory MessageFault.NoMemory (RefusesSummary (schema_view schema.now).label bytes.now)) }
 {
     summaries_are_read_as_stated();
-    message_format::read_summary(alloc, schema.label(), bytes)
+    sync_format::read_summary(alloc, schema.label(), bytes)
 }
 
 /// Returns a whole store, as a state of the schema: compact, keys and names ascending.
@@ -93,7 +94,7 @@ pub fn write_state(
 {
     entity_texts_are_read_as_stated();
     messages_are_read_as_stated();
-    message_format::write_state(alloc, schema.label(), store)
+    sync_format::write_state(alloc, schema.label(), store)
 }
 
 /// Returns a delta of the schema: the entries whose names `since` lacks or has with a smaller stamp.
@@ -119,7 +120,7 @@ pub fn write_delta(
         → updates_stated (schema_view schema.now).label b.items
         ≡ Ok (updates (delta (abstract_store store.now) since.now))) }
 {
-    message_format::write_delta(alloc, schema.label(), store, since)
+    sync_format::write_delta(alloc, schema.label(), store, since)
 }
 
 /// Returns the summary of a store, as a message of the schema: compact, keys and names ascending.
@@ -140,5 +141,5 @@ pub fn write_summary(
     ensures reads_back { IfOk result (λ b. AreStamped (summary_of (abstract_store store.now))
         → summary_stated (schema_view schema.now).label b.items ≡ Ok (summary_of (abstract_store store.now))) }
 {
-    message_format::write_summary(alloc, schema.label(), store)
+    sync_format::write_summary(alloc, schema.label(), store)
 }

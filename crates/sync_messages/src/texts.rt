@@ -4,10 +4,10 @@ ghost use Rattle.std.specs.Str.{bytes_eq};
 ghost use Rattle.serde_json.specs.View.{view};
 ghost use Rattle.json_words.specs.ReadsAs.{ReadsAs, AlwaysReadsAs, or_fault, demand};
 ghost use Rattle.json_words.specs.Json.{json_of};
-ghost use Rattle.validator.specs.entities.ancestor_search.Decided.{is_same};
-ghost use Rattle.message_format.specs.policy_grammar.Faults as grammar;
-ghost use Rattle.message_format.specs.policy_grammar.PolicyText.{IsPolicyText};
-ghost use Rattle.validator.specs.entities.schema.Views.{schema_view};
+ghost use Rattle.validator.specs.ancestor_search.Decided.{is_same};
+ghost use Rattle.sync_format.specs.policy_grammar.Faults as grammar;
+ghost use Rattle.sync_format.specs.policy_grammar.PolicyText.{IsPolicyText};
+ghost use Rattle.validator.specs.schema.Views.{schema_view};
 ghost use Rattle.validator.specs.entities.Entities.{entity_stated_in};
 ghost use Rattle.validator.specs.entities.Canonical.{canonical_text};
 ghost use Rattle.validator.specs.Faults as validation;
@@ -15,11 +15,11 @@ ghost use Rattle.validator.specs.Passing.{Passes};
 ghost use Rattle.plain.specs.AllocationErrors.{OrNoMemory};
 ghost use Rattle.sync_messages.specs.Texts.{ReadsPolicy, RefusesPolicy, RefusesEntity, entity_of_text, refused_by};
 
-use message_format::{
-    Bodies, BodyFault, Policy, ReadFault, Readings, Scratch, parse_policy, read_json_by,
-};
+use json_words::{Scratch, read_json_by};
 use serde_json::Value;
+use stamped_store::Readings;
 use std::alloc::Global;
+use sync_format::{Bodies, BodyFault, Policy, ReadFault, parse_policy};
 use validator::{Entity, EntityFault, Schema, TypeFault, canonical_text, check, read_entity};
 use values::EntityUid;
 
@@ -40,7 +40,7 @@ impl<'a> SchemaTexts<'a> {
 }
 
 impl Readings<Policy, Entity> for SchemaTexts<'_> {
-    ghost use Rattle.validator.specs.entities.schema.Views.{schema_view};
+    ghost use Rattle.validator.specs.schema.Views.{schema_view};
     ghost use Rattle.sync_messages.specs.Texts.{ReadsPolicy, ReadsEntity};
 
     ghost reads_policy = { λ t _ text p. ReadsPolicy (schema_view t.schema.now) text p };

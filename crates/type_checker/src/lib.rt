@@ -33,12 +33,6 @@ mod whole;
 
 pub use common_types::common;
 pub use dropping::{drop_type, drop_types, truncate_types};
-pub use entities::{
-    ActionScope, Entity, EntityFault, EntityScope, Environment, Policy, Schema, SchemaFault, Scope,
-    action_type_test_is_exact, bytes_have_one_outcome, canonical_text, canonical_texts_are_read,
-    entities_are_read_as_stated, entities_read_back, json_texts_are_utf8, read_entity, read_schema,
-    stated_schemas_are_well_formed,
-};
 pub use environment::{TypingEnvironment, attributes_of, is_action_type};
 pub use fault::ExpressionFault;
 pub use fields::{field_type, has_type};
@@ -46,10 +40,19 @@ pub use laws::environments_are_ordered;
 pub use literal_types::{literal_type, record_literal_type, set_literal_type};
 pub use operators::{address_test_type, binary_type, call_type, unary_type};
 pub use static_type::{BooleanType, Leaf, StaticType};
-pub use type_capabilities::Capability;
 pub use typed::Typed;
+pub use under::judge_under;
+pub use whole::judge_all;
+
+// of this layer
+pub use type_capabilities::Capability;
 pub use typing::{
     expressions_have_one_judgement, parents_determine_ancestors, typed_expressions_are_sound,
 };
-pub use under::judge_under;
-pub use whole::judge_all;
+
+// of lower layers
+pub use entities::{
+    ActionScope, Entity, EntityFault, EntityScope, Environment, Policy, Schema, SchemaFault, Scope,
+    bytes_have_one_outcome, canonical_text, canonical_texts_are_read, entities_are_read_as_stated,
+    read_entity, read_schema, stated_schemas_are_well_formed,
+};

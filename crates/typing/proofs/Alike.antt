@@ -2,7 +2,7 @@
 use Rattle.std.specs.Prelude.{List, [], ◌∷◌, ◌++◌, Bool, Contains}
 use Rattle.std.specs.Bool.{Decides}
 use Rattle.std.proofs.Common.{inl, inr, sym, subst}
-use Rattle.evaluator.specs.grammar_core.declared.expr.Expr.{Expr}
+use Rattle.grammar_core.specs.declared.expr.Expr.{Expr}
 use Rattle.typing.specs.Types.{StaticType}
 use Rattle.typing.specs.Environment.{Environment, ExpressionFault}
 use Rattle.typing.specs.Gained

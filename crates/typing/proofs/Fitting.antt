@@ -10,13 +10,13 @@ use Rattle.values.specs.declared.entity_uid.EntityUid.{EntityUid}
 use Rattle.values.specs.declared.request.Request.{Request}
 use Rattle.values.specs.Fields.{Field, find_field}
 use Rattle.values.specs.Values.{PlainValue, PlainFields, boolean, entity, record_of, pairs_of}
-use Rattle.evaluator.specs.grammar_core.declared.operator.Unary.{Unary}
-use Rattle.evaluator.specs.grammar_core.declared.operator.Unary.TheVariants as unary
-use Rattle.evaluator.specs.grammar_core.declared.operator.Binary.{Binary}
-use Rattle.evaluator.specs.grammar_core.declared.operator.Binary.TheVariants as binary
-use Rattle.evaluator.specs.grammar_core.declared.operator.UnaryCall.{UnaryCall}
-use Rattle.evaluator.specs.grammar_core.declared.operator.BinaryCall.{BinaryCall}
-use Rattle.evaluator.specs.grammar_core.declared.operator.BinaryCall.TheVariants as call
+use Rattle.grammar_core.specs.declared.operator.Unary.{Unary}
+use Rattle.grammar_core.specs.declared.operator.Unary.TheVariants as unary
+use Rattle.grammar_core.specs.declared.operator.Binary.{Binary}
+use Rattle.grammar_core.specs.declared.operator.Binary.TheVariants as binary
+use Rattle.grammar_core.specs.declared.operator.UnaryCall.{UnaryCall}
+use Rattle.grammar_core.specs.declared.operator.BinaryCall.{BinaryCall}
+use Rattle.grammar_core.specs.declared.operator.BinaryCall.TheVariants as call
 use Rattle.evaluator.specs.declared.fault.EvalFault.TheVariants as fault
 use Rattle.evaluator.specs.Outcomes
 use Rattle.evaluator.specs.Outcomes.{EvaluationResult, IsTruthOf, IsChecked}

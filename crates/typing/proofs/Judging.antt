@@ -2,22 +2,22 @@
 use Rattle.std.specs.Prelude.{◌≡◌, ℕ, List, [], ◌∷◌, ◌++◌, map, Bool, true, false, Option, Some, None, Result, Ok, Err}
 use Rattle.std.specs.Prelude.{refl}
 use Rattle.std.proofs.Common.{ap, ◌∙◌}
-use Rattle.evaluator.proofs.of_grammar_core.Forms.{Every, Cases, by_forms, fold_literal, fold_variable, fold_if}
-use Rattle.evaluator.proofs.of_grammar_core.Forms.{fold_and, fold_or, fold_unary, fold_binary, fold_field, fold_has}
-use Rattle.evaluator.proofs.of_grammar_core.Forms.{fold_set, fold_record, fold_unary_call, fold_binary_call}
-use Rattle.evaluator.specs.grammar_core.declared.leaf.Literal.{Literal}
-use Rattle.evaluator.specs.grammar_core.declared.leaf.Variable.{Variable}
-use Rattle.evaluator.specs.grammar_core.declared.operator.Unary.{Unary}
-use Rattle.evaluator.specs.grammar_core.declared.operator.Binary.{Binary}
-use Rattle.evaluator.specs.grammar_core.declared.operator.UnaryCall.{UnaryCall}
-use Rattle.evaluator.specs.grammar_core.declared.operator.UnaryCall.TheVariants as unary_call
-use Rattle.evaluator.specs.grammar_core.declared.operator.BinaryCall.{BinaryCall}
-use Rattle.evaluator.specs.grammar_core.declared.expr.Named.{Named}
-use Rattle.evaluator.specs.grammar_core.declared.expr.Expr.{Expr}
-use Rattle.evaluator.specs.grammar_core.declared.expr.Expr.TheVariants as form
-use Rattle.evaluator.specs.grammar_core.declared.expr.Expr.TheViews.{roll-Expr}
-use Rattle.evaluator.specs.grammar_core.declared.expr.Expr.TheOpen.{Expr-F}
-use Rattle.evaluator.specs.grammar_core.declared.expr.Expr.TheFolds.{map-Expr, fold-Expr}
+use Rattle.grammar_core.proofs.Forms.{Every, Cases, by_forms, fold_literal, fold_variable, fold_if}
+use Rattle.grammar_core.proofs.Forms.{fold_and, fold_or, fold_unary, fold_binary, fold_field, fold_has}
+use Rattle.grammar_core.proofs.Forms.{fold_set, fold_record, fold_unary_call, fold_binary_call}
+use Rattle.grammar_core.specs.declared.leaf.Literal.{Literal}
+use Rattle.grammar_core.specs.declared.leaf.Variable.{Variable}
+use Rattle.grammar_core.specs.declared.operator.Unary.{Unary}
+use Rattle.grammar_core.specs.declared.operator.Binary.{Binary}
+use Rattle.grammar_core.specs.declared.operator.UnaryCall.{UnaryCall}
+use Rattle.grammar_core.specs.declared.operator.UnaryCall.TheVariants as unary_call
+use Rattle.grammar_core.specs.declared.operator.BinaryCall.{BinaryCall}
+use Rattle.grammar_core.specs.declared.expr.Named.{Named}
+use Rattle.grammar_core.specs.declared.expr.Expr.{Expr}
+use Rattle.grammar_core.specs.declared.expr.Expr.TheVariants as form
+use Rattle.grammar_core.specs.declared.expr.Expr.TheViews.{roll-Expr}
+use Rattle.grammar_core.specs.declared.expr.Expr.TheOpen.{Expr-F}
+use Rattle.grammar_core.specs.declared.expr.Expr.TheFolds.{map-Expr, fold-Expr}
 use Rattle.typing.specs.Types
 use Rattle.typing.specs.Types.{StaticType}
 use Rattle.typing.specs.Environment

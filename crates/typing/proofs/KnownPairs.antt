@@ -2,7 +2,7 @@
 use Rattle.std.specs.Prelude.{◌≡◌, ℕ, List, [], ◌∷◌, Bool, true, false, Contains, refl}
 use Rattle.std.specs.Bool.{Decides, one_answer}
 use Rattle.std.proofs.Common.{inl, inr, ap, ◌∙◌}
-use Rattle.evaluator.specs.grammar_core.declared.expr.Expr.{Expr}
+use Rattle.grammar_core.specs.declared.expr.Expr.{Expr}
 use Rattle.values.specs.extensions.Decided.{Decided, is_proved}
 use Rattle.values.specs.extensions.inner.Deciding.{decided_as, both_decided, text_decided}
 use Rattle.typing.specs.Types

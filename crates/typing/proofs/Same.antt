@@ -6,24 +6,24 @@ use Rattle.std.proofs.lemmas.Bool.Decides.{Decides-int_eq}
 use Rattle.std.specs.Ordering.{int_eq, is_eq}
 use Rattle.values.specs.declared.entity_uid.EntityUid.{EntityUid}
 use Rattle.values.specs.Uids.{uid_cmp, uid_cmp-IsTotalOrder, uid_cmp-IsAntisymmetric, equal-is}
-use Rattle.evaluator.proofs.of_grammar_core.Forms.{Every, Cases, by_forms}
-use Rattle.evaluator.specs.grammar_core.declared.leaf.Literal.{Literal}
-use Rattle.evaluator.specs.grammar_core.declared.leaf.Literal.TheVariants as literal
-use Rattle.evaluator.specs.grammar_core.declared.leaf.Variable.{Variable}
-use Rattle.evaluator.specs.grammar_core.declared.leaf.Variable.TheVariants as variable
-use Rattle.evaluator.specs.grammar_core.declared.operator.Unary.{Unary}
-use Rattle.evaluator.specs.grammar_core.declared.operator.Unary.TheVariants as unary
-use Rattle.evaluator.specs.grammar_core.declared.operator.Binary.{Binary}
-use Rattle.evaluator.specs.grammar_core.declared.operator.Binary.TheVariants as binary
-use Rattle.evaluator.specs.grammar_core.declared.operator.UnaryCall.{UnaryCall}
-use Rattle.evaluator.specs.grammar_core.declared.operator.UnaryCall.TheVariants as unary_call
-use Rattle.evaluator.specs.grammar_core.declared.operator.BinaryCall.{BinaryCall}
-use Rattle.evaluator.specs.grammar_core.declared.operator.BinaryCall.TheVariants as binary_call
-use Rattle.evaluator.specs.grammar_core.declared.expr.Named.{Named}
-use Rattle.evaluator.specs.grammar_core.declared.expr.Expr.{Expr}
-use Rattle.evaluator.specs.grammar_core.declared.expr.Expr.TheVariants as form
-use Rattle.evaluator.specs.grammar_core.declared.expr.Expr.TheViews.{roll-Expr, out-Expr, roll-out-Expr}
-use Rattle.evaluator.specs.grammar_core.declared.expr.Expr.TheOpen.{Expr-F}
+use Rattle.grammar_core.proofs.Forms.{Every, Cases, by_forms}
+use Rattle.grammar_core.specs.declared.leaf.Literal.{Literal}
+use Rattle.grammar_core.specs.declared.leaf.Literal.TheVariants as literal
+use Rattle.grammar_core.specs.declared.leaf.Variable.{Variable}
+use Rattle.grammar_core.specs.declared.leaf.Variable.TheVariants as variable
+use Rattle.grammar_core.specs.declared.operator.Unary.{Unary}
+use Rattle.grammar_core.specs.declared.operator.Unary.TheVariants as unary
+use Rattle.grammar_core.specs.declared.operator.Binary.{Binary}
+use Rattle.grammar_core.specs.declared.operator.Binary.TheVariants as binary
+use Rattle.grammar_core.specs.declared.operator.UnaryCall.{UnaryCall}
+use Rattle.grammar_core.specs.declared.operator.UnaryCall.TheVariants as unary_call
+use Rattle.grammar_core.specs.declared.operator.BinaryCall.{BinaryCall}
+use Rattle.grammar_core.specs.declared.operator.BinaryCall.TheVariants as binary_call
+use Rattle.grammar_core.specs.declared.expr.Named.{Named}
+use Rattle.grammar_core.specs.declared.expr.Expr.{Expr}
+use Rattle.grammar_core.specs.declared.expr.Expr.TheVariants as form
+use Rattle.grammar_core.specs.declared.expr.Expr.TheViews.{roll-Expr, out-Expr, roll-out-Expr}
+use Rattle.grammar_core.specs.declared.expr.Expr.TheOpen.{Expr-F}
 use Rattle.values.specs.extensions.Decided.{Decided}
 use Rattle.values.specs.extensions.inner.Deciding.{decided_as, both_decided, text_decided}
 

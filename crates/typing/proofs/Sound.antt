@@ -8,14 +8,14 @@ use Rattle.values.specs.declared.request.Request.{Request}
 use Rattle.values.specs.Fields.{Field, put}
 use Rattle.values.specs.Sets.{IsSetOf}
 use Rattle.values.specs.Values.{PlainValue, boolean, set, values_of}
-use Rattle.evaluator.specs.grammar_core.declared.leaf.Literal.{Literal}
-use Rattle.evaluator.specs.grammar_core.declared.leaf.Literal.TheVariants as literal
-use Rattle.evaluator.specs.grammar_core.declared.leaf.Variable.{Variable}
-use Rattle.evaluator.specs.grammar_core.declared.leaf.Variable.TheVariants as variable
-use Rattle.evaluator.specs.grammar_core.declared.expr.Named.{Named}
-use Rattle.evaluator.specs.grammar_core.declared.expr.Expr.{Expr}
-use Rattle.evaluator.specs.grammar_core.declared.expr.Expr.TheVariants as form
-use Rattle.evaluator.specs.grammar_core.declared.expr.Expr.TheOpen.{Expr-F}
+use Rattle.grammar_core.specs.declared.leaf.Literal.{Literal}
+use Rattle.grammar_core.specs.declared.leaf.Literal.TheVariants as literal
+use Rattle.grammar_core.specs.declared.leaf.Variable.{Variable}
+use Rattle.grammar_core.specs.declared.leaf.Variable.TheVariants as variable
+use Rattle.grammar_core.specs.declared.expr.Named.{Named}
+use Rattle.grammar_core.specs.declared.expr.Expr.{Expr}
+use Rattle.grammar_core.specs.declared.expr.Expr.TheVariants as form
+use Rattle.grammar_core.specs.declared.expr.Expr.TheOpen.{Expr-F}
 use Rattle.evaluator.specs.declared.fault.EvalFault.{EvalFault}
 use Rattle.evaluator.specs.Outcomes.{EvaluationResult, boolean_in}
 use Rattle.evaluator.specs.Operators.{Entities, HasGives}

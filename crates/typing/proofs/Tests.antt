@@ -8,17 +8,17 @@ use Rattle.values.specs.extensions.DecimalText.{IsDecimalText}
 use Rattle.values.specs.extensions.Network.{Network}
 use Rattle.values.specs.extensions.NetworkText.{IsNetworkText}
 use Rattle.values.specs.declared.entity_uid.EntityUid.{EntityUid}
-use Rattle.evaluator.specs.grammar_core.declared.leaf.Literal.{Literal}
-use Rattle.evaluator.specs.grammar_core.declared.leaf.Literal.TheVariants as literal
-use Rattle.evaluator.specs.grammar_core.declared.leaf.Variable.TheVariants as variable
-use Rattle.evaluator.specs.grammar_core.declared.operator.Binary.{Binary}
-use Rattle.evaluator.specs.grammar_core.declared.operator.Binary.TheVariants as binary
-use Rattle.evaluator.specs.grammar_core.declared.operator.UnaryCall.{UnaryCall}
-use Rattle.evaluator.specs.grammar_core.declared.operator.UnaryCall.TheVariants as unary_call
-use Rattle.evaluator.specs.grammar_core.declared.expr.Expr.{Expr}
-use Rattle.evaluator.specs.grammar_core.declared.expr.Expr.TheVariants as form
-use Rattle.evaluator.specs.grammar_core.declared.expr.Expr.TheViews.{roll-Expr, out-Expr, roll-out-Expr}
-use Rattle.evaluator.specs.grammar_core.declared.expr.Expr.TheOpen.{Expr-F}
+use Rattle.grammar_core.specs.declared.leaf.Literal.{Literal}
+use Rattle.grammar_core.specs.declared.leaf.Literal.TheVariants as literal
+use Rattle.grammar_core.specs.declared.leaf.Variable.TheVariants as variable
+use Rattle.grammar_core.specs.declared.operator.Binary.{Binary}
+use Rattle.grammar_core.specs.declared.operator.Binary.TheVariants as binary
+use Rattle.grammar_core.specs.declared.operator.UnaryCall.{UnaryCall}
+use Rattle.grammar_core.specs.declared.operator.UnaryCall.TheVariants as unary_call
+use Rattle.grammar_core.specs.declared.expr.Expr.{Expr}
+use Rattle.grammar_core.specs.declared.expr.Expr.TheVariants as form
+use Rattle.grammar_core.specs.declared.expr.Expr.TheViews.{roll-Expr, out-Expr, roll-out-Expr}
+use Rattle.grammar_core.specs.declared.expr.Expr.TheOpen.{Expr-F}
 use Rattle.values.specs.extensions.Decided.{Decided, is_proved}
 use Rattle.values.specs.extensions.inner.Deciding.{decided_as, both_decided, either_decided}
 use Rattle.values.specs.extensions.TextsDecided.{decimal_text_decided, network_text_decided}

@@ -9,7 +9,7 @@ use Rattle.values.specs.declared.request.Request.{Request}
 use Rattle.values.specs.Fields.{Field}
 use Rattle.values.specs.Values.{boolean, record_of, fields_of}
 use Rattle.evaluator.specs.ancestor_search.Hierarchy.{IsAncestor, AreAllAncestorsOf}
-use Rattle.evaluator.specs.grammar_core.declared.expr.Expr.TheVariants as form
+use Rattle.grammar_core.specs.declared.expr.Expr.TheVariants as form
 use Rattle.evaluator.specs.declared.fault.EvalFault.{EvalFault}
 use Rattle.evaluator.specs.declared.fault.EvalFault.TheVariants.{EntityDoesNotExist, ArithBoundsError}
 use Rattle.evaluator.specs.Outcomes.{EvaluationResult}

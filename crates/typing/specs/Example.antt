@@ -9,11 +9,11 @@ use Rattle.values.specs.Fields.{Field}
 use Rattle.values.specs.Uids.{uid_cmp}
 use Rattle.values.specs.Values.{boolean, long}
 use Rattle.evaluator.specs.ancestor_search.Hierarchy.{Parents, no_parents, with_parents}
-use Rattle.evaluator.specs.grammar_core.declared.leaf.Literal.TheVariants as literal
-use Rattle.evaluator.specs.grammar_core.declared.leaf.Variable.TheVariants.{Principal}
-use Rattle.evaluator.specs.grammar_core.declared.operator.Binary.TheVariants.{Less}
-use Rattle.evaluator.specs.grammar_core.declared.expr.Expr.{Expr}
-use Rattle.evaluator.specs.grammar_core.declared.expr.Expr.TheVariants as form
+use Rattle.grammar_core.specs.declared.leaf.Literal.TheVariants as literal
+use Rattle.grammar_core.specs.declared.leaf.Variable.TheVariants.{Principal}
+use Rattle.grammar_core.specs.declared.operator.Binary.TheVariants.{Less}
+use Rattle.grammar_core.specs.declared.expr.Expr.{Expr}
+use Rattle.grammar_core.specs.declared.expr.Expr.TheVariants as form
 use Rattle.evaluator.specs.Operators.{Entities}
 use Rattle.typing.specs.Types.{FieldTypes, no_field_types, field_type, boolean_type, long_type}
 use Rattle.typing.specs.Environment.{Environment}

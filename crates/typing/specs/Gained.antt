@@ -2,7 +2,7 @@
 -- Source: Cedar reference guide 4.0, "Policy validation" (`has` before `.`); cedar-spec,
 -- cedar-lean/Cedar/Validation/Types.lean (`Capabilities`).
 use Rattle.std.specs.Prelude.{ℕ, List, [], ◌∷◌, Contains}
-use Rattle.evaluator.specs.grammar_core.declared.expr.Expr.{Expr}
+use Rattle.grammar_core.specs.declared.expr.Expr.{Expr}
 use Rattle.typing.specs.Types.{StaticType, true_type, false_type, boolean_type}
 
 -- A `Capability` is an expression and a field's name, and means that the expression's value has this field.

@@ -1,5 +1,5 @@
 -- Defines the judgement on an expression: its type with the capabilities that it gains, or its error.
-use Rattle.evaluator.specs.grammar_core.declared.expr.Expr.{Expr}
+use Rattle.grammar_core.specs.declared.expr.Expr.{Expr}
 use Rattle.typing.specs.Types.{StaticType}
 use Rattle.typing.specs.Environment.{Environment, ExpressionFault}
 use Rattle.typing.specs.Gained.{CapabilityList}

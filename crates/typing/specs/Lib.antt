@@ -14,6 +14,6 @@ pub mod Places
 pub mod Rows
 pub mod Types
 pub mod Typing
--- Specifications of lower crates, re-exported.
+-- of lower layers
 pub use Rattle.evaluator.specs as evaluator
 pub use Rattle.evaluator.specs.ancestor_search

@@ -6,21 +6,21 @@
 use Rattle.std.specs.Prelude.{ℕ, List, [], ◌∷◌, Bool, true, false, ◌||◌, Option, Some, None, Result, Ok, Err}
 use Rattle.std.specs.Prelude.{if◌then◌else◌}
 use Rattle.std.specs.Str.{bytes_eq}
-use Rattle.evaluator.specs.grammar_core.declared.leaf.Literal.{Literal}
-use Rattle.evaluator.specs.grammar_core.declared.leaf.Literal.TheVariants as literal
-use Rattle.evaluator.specs.grammar_core.declared.leaf.Variable.{Variable}
-use Rattle.evaluator.specs.grammar_core.declared.leaf.Variable.TheVariants.{Principal, Action, Resource, Context}
-use Rattle.evaluator.specs.grammar_core.declared.operator.Unary.{Unary}
-use Rattle.evaluator.specs.grammar_core.declared.operator.Unary.TheVariants.{Not, Negate, Like, Is}
-use Rattle.evaluator.specs.grammar_core.declared.operator.Binary.{Binary}
-use Rattle.evaluator.specs.grammar_core.declared.operator.Binary.TheVariants.{Equal, In, Less, LessOrEqual, Add}
-use Rattle.evaluator.specs.grammar_core.declared.operator.Binary.TheVariants.{Subtract}
-use Rattle.evaluator.specs.grammar_core.declared.operator.Binary.TheVariants.{Multiply, Contains, ContainsAll}
-use Rattle.evaluator.specs.grammar_core.declared.operator.Binary.TheVariants.{ContainsAny}
-use Rattle.evaluator.specs.grammar_core.declared.operator.BinaryCall.{BinaryCall}
-use Rattle.evaluator.specs.grammar_core.declared.operator.BinaryCall.TheVariants.{LessThan, LessThanOrEqual}
-use Rattle.evaluator.specs.grammar_core.declared.operator.BinaryCall.TheVariants.{GreaterThan}
-use Rattle.evaluator.specs.grammar_core.declared.operator.BinaryCall.TheVariants.{GreaterThanOrEqual, IsInRange}
+use Rattle.grammar_core.specs.declared.leaf.Literal.{Literal}
+use Rattle.grammar_core.specs.declared.leaf.Literal.TheVariants as literal
+use Rattle.grammar_core.specs.declared.leaf.Variable.{Variable}
+use Rattle.grammar_core.specs.declared.leaf.Variable.TheVariants.{Principal, Action, Resource, Context}
+use Rattle.grammar_core.specs.declared.operator.Unary.{Unary}
+use Rattle.grammar_core.specs.declared.operator.Unary.TheVariants.{Not, Negate, Like, Is}
+use Rattle.grammar_core.specs.declared.operator.Binary.{Binary}
+use Rattle.grammar_core.specs.declared.operator.Binary.TheVariants.{Equal, In, Less, LessOrEqual, Add}
+use Rattle.grammar_core.specs.declared.operator.Binary.TheVariants.{Subtract}
+use Rattle.grammar_core.specs.declared.operator.Binary.TheVariants.{Multiply, Contains, ContainsAll}
+use Rattle.grammar_core.specs.declared.operator.Binary.TheVariants.{ContainsAny}
+use Rattle.grammar_core.specs.declared.operator.BinaryCall.{BinaryCall}
+use Rattle.grammar_core.specs.declared.operator.BinaryCall.TheVariants.{LessThan, LessThanOrEqual}
+use Rattle.grammar_core.specs.declared.operator.BinaryCall.TheVariants.{GreaterThan}
+use Rattle.grammar_core.specs.declared.operator.BinaryCall.TheVariants.{GreaterThanOrEqual, IsInRange}
 use Rattle.typing.specs.Types.{StaticType, true_type, false_type, boolean_type, long_type, text_type, entity_type}
 use Rattle.typing.specs.Types.{set_type, record_type, decimal_type, ipaddr_type, Declared, undeclared, optional}
 use Rattle.typing.specs.Types.{required, field_declared_at, truth_type, common, common_of}

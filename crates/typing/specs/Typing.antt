@@ -6,15 +6,15 @@
 -- both sides even if `b`, but not `a`, has the type False.
 use Rattle.std.specs.Prelude.{◌≡◌, ℕ, List, [], ◌∷◌, ◌++◌, map, Contains, Bool, Some, Ok}
 use Rattle.std.specs.Bool.{Decides}
-use Rattle.evaluator.specs.grammar_core.declared.leaf.Literal.{Literal}
-use Rattle.evaluator.specs.grammar_core.declared.leaf.Variable.{Variable}
-use Rattle.evaluator.specs.grammar_core.declared.operator.Unary.{Unary}
-use Rattle.evaluator.specs.grammar_core.declared.operator.Binary.{Binary}
-use Rattle.evaluator.specs.grammar_core.declared.operator.UnaryCall.{UnaryCall}
-use Rattle.evaluator.specs.grammar_core.declared.operator.BinaryCall.{BinaryCall}
-use Rattle.evaluator.specs.grammar_core.declared.expr.Named.{Named}
-use Rattle.evaluator.specs.grammar_core.declared.expr.Expr.{Expr}
-use Rattle.evaluator.specs.grammar_core.declared.expr.Expr.TheVariants as form
+use Rattle.grammar_core.specs.declared.leaf.Literal.{Literal}
+use Rattle.grammar_core.specs.declared.leaf.Variable.{Variable}
+use Rattle.grammar_core.specs.declared.operator.Unary.{Unary}
+use Rattle.grammar_core.specs.declared.operator.Binary.{Binary}
+use Rattle.grammar_core.specs.declared.operator.UnaryCall.{UnaryCall}
+use Rattle.grammar_core.specs.declared.operator.BinaryCall.{BinaryCall}
+use Rattle.grammar_core.specs.declared.expr.Named.{Named}
+use Rattle.grammar_core.specs.declared.expr.Expr.{Expr}
+use Rattle.grammar_core.specs.declared.expr.Expr.TheVariants as form
 use Rattle.evaluator.specs.Operators.{TakesAddress}
 use Rattle.typing.specs.Types.{StaticType, true_type, false_type, boolean_type, record_type}
 use Rattle.typing.specs.Types.{no_field_types, put_each, truth_type, IsBoolean, common}

@@ -17,8 +17,12 @@ pub use fault::TypeFault;
 pub use known::{unknown_entity, unknown_tested_type};
 pub use laws::{passing_policies_are_sound, policies_have_one_outcome};
 pub use scope::{drop_expression, expression_of};
+
+// of this layer
+pub use type_checker::parents_determine_ancestors;
+
+// of lower layers
 pub use type_checker::{
-    Entity, EntityFault, Schema, SchemaFault, action_type_test_is_exact, bytes_have_one_outcome,
-    canonical_text, canonical_texts_are_read, entities_are_read_as_stated, entities_read_back,
-    json_texts_are_utf8, parents_determine_ancestors, read_entity, read_schema,
+    Entity, EntityFault, Schema, SchemaFault, bytes_have_one_outcome, canonical_text,
+    canonical_texts_are_read, entities_are_read_as_stated, read_entity, read_schema,
 };

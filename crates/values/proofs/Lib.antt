@@ -13,5 +13,5 @@ pub mod Scanning
 pub mod Unique
 pub mod Within
 pub mod WellFormedLemmas
--- crates below, passed on to those above
+-- of lower layers
 pub use Rattle.extensions.proofs as of_extensions

@@ -11,5 +11,5 @@ pub mod ValueOrder
 pub mod ValueView
 pub mod Values
 pub mod WellFormed
--- Specifications of lower crates, re-exported.
+-- of lower layers
 pub use Rattle.extensions.specs as extensions

@@ -16,9 +16,6 @@ mod value;
 mod value_ref;
 
 pub use entity_uid::EntityUid;
-pub use extensions::decimal::decimal_is_unique;
-pub use extensions::ip_net::network_is_unique;
-pub use extensions::{Decimal, IpNet};
 pub use laws::{
     path_tests_are_exact, records_are_maps, sets_hold_their_members, values_stay_well_formed,
 };
@@ -34,3 +31,8 @@ pub use shared_text::SharedText;
 pub use type_name::TypeName;
 pub use value::{Kind, Value};
 pub use value_ref::{BorrowedKind, ValueRef};
+
+// of lower layers
+pub use extensions::decimal::decimal_is_unique;
+pub use extensions::ip_net::network_is_unique;
+pub use extensions::{Decimal, IpNet};

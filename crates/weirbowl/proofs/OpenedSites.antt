@@ -1,10 +1,10 @@
 -- What is said of a site that was opened, from what is said of its parts.
 use Rattle.std.proofs.Common.{◌≡◌, ℕ, List, [], sym, subst}
-use Rattle.site_calls.specs.site_steps.SiteViews.{store_in}
-use Rattle.site_calls.specs.site_steps.schema.SchemaEntries.{SchemaEntries}
-use Rattle.site_calls.specs.site_steps.schema.Schemas.{IsSchemaOf}
-use Rattle.site_calls.specs.site_steps.schema.Views.{schema_view}
-use Rattle.site_calls.specs.site_steps.stamped_store.Store.{store_of}
+use Rattle.http_replies.specs.site.SiteViews.{store_in}
+use Rattle.http_replies.specs.schema.SchemaEntries.{SchemaEntries}
+use Rattle.http_replies.specs.schema.Schemas.{IsSchemaOf}
+use Rattle.http_replies.specs.schema.Views.{schema_view}
+use Rattle.http_replies.specs.stamped_store.Store.{store_of}
 use Rattle.weirbowl.specs.Opening.{IsOpened}
 use Rattle.weirbowl.specs.declared.embedded.EmbeddedSite.{EmbeddedSite}
 

@@ -2,7 +2,7 @@
 use Rattle.std.proofs.Common.{rules, ◌≡◌, ◌<◌, ℕ, List, length, zero, suc, refl, sym, ap, subst, inl, inr, arith}
 use Rattle.std.specs.Prelude.{Option, Some, None, is_some, false}
 use Rattle.http.specs.declared.status.StatusCode.{StatusCode}
-use Rattle.site_calls.specs.site_steps.Inputs.{Input}
+use Rattle.http_replies.specs.site.Inputs.{Input}
 use Rattle.weirbowl.specs.Copies.{copied}
 use Rattle.weirbowl.specs.Embedding.{IsCalled}
 use Rattle.weirbowl.specs.Opening.{IsOpened, IsOpenError, code_of}

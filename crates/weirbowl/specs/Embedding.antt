@@ -3,8 +3,8 @@
 -- Rules of this product: the body stays until the next call.
 use Rattle.std.specs.Prelude.{[]}
 use Rattle.http.specs.declared.status.StatusCode.{StatusCode}
-use Rattle.site_calls.specs.Answers.{Appends}
-use Rattle.site_calls.specs.site_steps.Inputs.{Input}
+use Rattle.http_replies.specs.Answers.{Appends}
+use Rattle.http_replies.specs.site.Inputs.{Input}
 use Rattle.weirbowl.specs.declared.embedded.EmbeddedSite.{EmbeddedSite}
 
 -- `IsCalled old i status new` holds if the site `old` answers the input `i` with `status` and becomes `new`, which

@@ -3,10 +3,10 @@
 -- Rules of this product: the name is checked before the schema; a new site has nothing stored; the code of a name's
 -- error is 2.
 use Rattle.std.specs.Prelude.{◌≡◌, ℕ, List, []}
-use Rattle.site_calls.specs.site_steps.SiteViews.{schema_of, store_in}
-use Rattle.site_calls.specs.site_steps.schema.Schemas.{IsSchemaOf}
-use Rattle.site_calls.specs.site_steps.stamped_store.SiteNames.{IsSiteName}
-use Rattle.site_calls.specs.site_steps.stamped_store.Store.{store_of}
+use Rattle.http_replies.specs.site.SiteViews.{schema_of, store_in}
+use Rattle.http_replies.specs.schema.Schemas.{IsSchemaOf}
+use Rattle.http_replies.specs.stamped_store.SiteNames.{IsSiteName}
+use Rattle.http_replies.specs.stamped_store.Store.{store_of}
 use Rattle.schema_decisions.specs.Checks.{IsSchemaRefused}
 use Rattle.schema_decisions.specs.answer_lines.Refusals.{no_memory}
 use Rattle.weirbowl.specs.declared.embedded.EmbeddedSite.{EmbeddedSite}

@@ -5,7 +5,7 @@
 -- status 0.
 use Rattle.std.specs.Prelude.{◌≡◌, ◌⊎◌, ◌<◌, ℕ, Bool, List, Option, Some, None, is_some, length}
 use Rattle.http.specs.declared.status.StatusCode.{StatusCode}
-use Rattle.site_calls.specs.site_steps.Inputs.{Input}
+use Rattle.http_replies.specs.site.Inputs.{Input}
 use Rattle.weirbowl.specs.Copies.{copied}
 use Rattle.weirbowl.specs.Embedding.{IsCalled}
 use Rattle.weirbowl.specs.Opening.{IsOpened, IsOpenError, code_of}

@@ -1,10 +1,10 @@
 //! A site in the process of its caller.
 ghost use Rattle.std.specs.Prelude.{◌≡◌, ◌≤◌};
 ghost use Rattle.std.specs.Vec.{vec_capacity};
-ghost use Rattle.site_calls.specs.declared.TheConstants.{LINE_ROOM};
+ghost use Rattle.http_replies.specs.declared.TheConstants.{LINE_ROOM};
 
 use http::StatusCode;
-use site_calls::{Input, Scratch, Site, reply_to};
+use http_replies::{Input, Scratch, Site, reply_to};
 use std::alloc::Global;
 
 /// A site, with the body of its last reply.
@@ -22,7 +22,7 @@ pub struct EmbeddedSite {
 }
 
 impl EmbeddedSite {
-    ghost use Rattle.site_calls.specs.site_steps.Inputs.{input_of};
+    ghost use Rattle.http_replies.specs.site.Inputs.{input_of};
     ghost use Rattle.weirbowl.specs.Embedding.{IsCalled};
 
     /// Answers an input in one step of the site, keeps the body of the reply in place of the last one, and returns the

@@ -1,16 +1,16 @@
 //! Opening an embedded site.
 ghost use Rattle.std.specs.Prelude.{◌≡◌, [], IfOk, IfErr, MatchOption};
-ghost use Rattle.site_calls.specs.site_steps.SiteViews.{schema_of, store_in};
-ghost use Rattle.site_calls.specs.site_steps.stamped_store.SiteNames.{IsSiteName};
-ghost use Rattle.site_calls.specs.site_steps.stamped_store.Store.{store_of};
+ghost use Rattle.http_replies.specs.site.SiteViews.{schema_of, store_in};
+ghost use Rattle.http_replies.specs.stamped_store.SiteNames.{IsSiteName};
+ghost use Rattle.http_replies.specs.stamped_store.Store.{store_of};
 ghost use Rattle.schema_decisions.specs.Checks.{IsSchemaRefused};
 ghost use Rattle.schema_decisions.specs.answer_lines.Refusals.{no_memory};
 ghost use Rattle.weirbowl.specs.Opening.{IsOpened, IsOpenError, code_of};
 
 use crate::embedded::EmbeddedSite;
+use http_replies::{LINE_ROOM, Scratch, Site, is_site_name, site_names_are_recognized};
 use plain::{NoMemory, Shared};
 use schema_decisions::{Refusal, Schema, schema_in};
-use site_calls::{LINE_ROOM, Scratch, Site, is_site_name, site_names_are_recognized};
 use std::alloc::Global;
 
 /// The reason why no site is opened.

@@ -3,13 +3,13 @@
 //! Opening returns a number, and closing a boolean. Each other call copies the body of its reply to the beginning of
 //! `out`, if `out` is long enough, and returns the reply's status and the body's length. If no site is open, it does
 //! nothing and returns the status 0.
-ghost use Rattle.site_calls.specs.site_steps.Inputs as input;
+ghost use Rattle.http_replies.specs.site.Inputs as input;
 ghost use Rattle.weirbowl.specs.SlotCalls.{Calls, Opens, Closes, RepeatsBody};
 
 use crate::call_result::CallResult;
 use crate::slot::SiteSlot;
 use crate::slot_calls::{call_in, close_in, open_in, repeat_body};
-use site_calls::Input;
+use http_replies::Input;
 use std::alloc::Global;
 
 /// Opens an empty site in the slot. Returns 0 on success, 3 if a site was open there already, and else the code of the

@@ -1,6 +1,6 @@
 //! Calls of the site of a slot.
 ghost use Rattle.std.specs.Prelude.{◌≡◌, length};
-ghost use Rattle.site_calls.specs.site_steps.Inputs.{input_of};
+ghost use Rattle.http_replies.specs.site.Inputs.{input_of};
 ghost use Rattle.weirbowl.specs.Copies.{copied};
 ghost use Rattle.weirbowl.specs.SlotCalls.{Calls, Opens, Closes, RepeatsBody, not_open};
 
@@ -11,7 +11,7 @@ use crate::pointer::SitePointer;
 use crate::raw_box::RawBox;
 use crate::slot::SiteSlot;
 use http::StatusCode;
-use site_calls::Input;
+use http_replies::Input;
 use std::alloc::Global;
 
 /// Returns the result of a call on a slot where no site is open: status 0 and length 0.

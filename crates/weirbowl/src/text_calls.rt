@@ -9,8 +9,8 @@ ghost use Rattle.weirbowl.specs.TextCalls.{Decides, DecidesUnder, Checks, Reject
 
 use crate::call_result::CallResult;
 use crate::copying::copy_out;
+use http_replies::error_line;
 use schema_decisions::{Refusal, check_texts, decide_texts, decide_under};
-use site_calls::error_line;
 use std::alloc::Global;
 
 /// Returns the result of a call that is out of memory: status 503 and length 0.

@@ -5,7 +5,7 @@ use Rattle.serde_json.specs.Find.{get}
 use Rattle.values.specs.declared.entity_uid.EntityUid.{EntityUid}
 use Rattle.entities.specs.entity_uids.Uids.{uid_in}
 use Rattle.entities.specs.Typing.{with_or}
-use Rattle.entities.specs.entity_data.ancestor_search.Decided.{is_same}
+use Rattle.entities.specs.ancestor_search.Decided.{is_same}
 use Rattle.schema_decisions.specs.schema.Schemas.{StatedSchema}
 use Rattle.entities.specs.declared.fault.EntityFault.{EntityFault}
 use Rattle.entities.specs.declared.fault.EntityFault.TheVariants.{BadShape, UnknownType, ActionEntity, TagsLeftOut}

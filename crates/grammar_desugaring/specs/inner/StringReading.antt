@@ -8,12 +8,12 @@ use Rattle.std.proofs.Common.{append_assoc, Some, None, nat_eq, inl, inr}
 use Rattle.std.proofs.lemmas.Bool.{cases_Bool, eqb-true}
 use Rattle.std.specs.Char.{digit_value}
 use Rattle.plain.specs.Words.{AllAre}
-use Rattle.grammar_trees.specs.grammar_tokens.declared.piece.Piece.{Piece}
-use Rattle.grammar_trees.specs.grammar_tokens.declared.piece.Piece.TheVariants as piece
-use Rattle.grammar_trees.specs.grammar_tokens.Lexing.{escaped, quote, backslash, is_hex, hex_after, IsEscape, letter}
-use Rattle.grammar_trees.specs.grammar_tokens.Lexing.{star, short}
-use Rattle.grammar_trees.specs.grammar_tokens.Lexing.{long, IsBody, done, itself, escape}
-use Rattle.grammar_trees.specs.grammar_tokens.Strings.{bytes_of, literals_of, IsStringOf, IsPatternOf}
+use Rattle.grammar_syntax.specs.declared.piece.Piece.{Piece}
+use Rattle.grammar_syntax.specs.declared.piece.Piece.TheVariants as piece
+use Rattle.grammar_syntax.specs.Lexing.{escaped, quote, backslash, is_hex, hex_after, IsEscape, letter}
+use Rattle.grammar_syntax.specs.Lexing.{star, short}
+use Rattle.grammar_syntax.specs.Lexing.{long, IsBody, done, itself, escape}
+use Rattle.grammar_syntax.specs.Strings.{bytes_of, literals_of, IsStringOf, IsPatternOf}
 use Rattle.grammar_desugaring.specs.StringMeaning.{StringMeaning}
 
 -- A `Reading` is the state of the reader: between two pieces; after a backslash; after `\x`; after the first digit of

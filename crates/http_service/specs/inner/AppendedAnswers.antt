@@ -3,7 +3,7 @@ use Rattle.std.specs.Prelude.{◌≡◌, ℕ, List, ◌++◌}
 use Rattle.http.specs.declared.status.StatusCode.{StatusCode}
 use Rattle.http_service.specs.LogLines.{IsLogLine, IsUndone, tail_of}
 use Rattle.http_service.specs.Routes.{Asked}
-use Rattle.site_calls.specs.site_steps.SiteViews.{SiteView}
+use Rattle.http_replies.specs.site.SiteViews.{SiteView}
 use Rattle.http_service.specs.RequestReplies.{RepliesTo, answers}
 
 -- `AppendsTo old asked status before after new` holds if `after` is `before` followed by the reply, with `status`, of

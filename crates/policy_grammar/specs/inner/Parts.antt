@@ -3,9 +3,9 @@
 use Rattle.std.specs.Prelude.{◌≡◌, ◌≢◌, ◌↔◌, ◌&&◌, ◌||◌, ◌==◌, Bool, false, IsTrue, ℕ, List, [], ◌∷◌, ◌++◌}
 use Rattle.std.specs.Prelude.{is_some, find, codes, if◌then◌else◌}
 use Rattle.std.specs.List.{AllByRecursion, flat_map, starts_with}
-use Rattle.grammar_desugaring.specs.grammar_tokens.Lexing.{quote, backslash}
-use Rattle.grammar_policies.specs.declared.tree.Condition.{Condition}
-use Rattle.grammar_policies.specs.declared.tree.PolicyTree.{PolicyTree}
+use Rattle.grammar_desugaring.specs.grammar_syntax.Lexing.{quote, backslash}
+use Rattle.grammar_parsing.specs.declared.tree.Condition.{Condition}
+use Rattle.grammar_parsing.specs.declared.tree.PolicyTree.{PolicyTree}
 use Rattle.grammar_desugaring.specs.Faults.{faults_of}
 use Rattle.grammar_desugaring.specs.ReportedErrors.{least}
 use Rattle.grammar_desugaring.specs.Repeats.{NameAt}

@@ -1,16 +1,16 @@
 -- Defines the events of an exchange whose calls succeed.
 use Rattle.std.specs.Prelude.{◌≡◌, ℕ, ◌+◌, ◌++◌, List, [], ◌∷◌, Some, true}
 use Rattle.std.specs.Borrow.{Bor}
-use Rattle.state_exchanges.specs.http_streams.declared.devices.Source.{Ghosts as Source}
-use Rattle.state_exchanges.specs.http_streams.declared.devices.Sink.{Ghosts as Sink}
-use Rattle.state_exchanges.specs.declared.asking.ExchangeCall.TheVariants as call
+use Rattle.program_exchanges.specs.http_streams.declared.devices.Source.{Ghosts as Source}
+use Rattle.program_exchanges.specs.http_streams.declared.devices.Sink.{Ghosts as Sink}
+use Rattle.program_exchanges.specs.declared.asking.ExchangeCall.TheVariants as call
 use Rattle.program.specs.declared.device.Link.{Link}
 use Rattle.program.specs.declared.device.Stream.TheVariants.{Answers}
 use Rattle.program.specs.declared.exchanging.RoundCall.{RoundCall}
 use Rattle.program.specs.Events.{Event, closed, connected, wrote}
 use Rattle.program.specs.Reports.{ended}
 use Rattle.program.specs.Courses.{Course}
-use Rattle.state_exchanges.specs.Counts.{IsTakenLine}
+use Rattle.program_exchanges.specs.Counts.{IsTakenLine}
 use Rattle.program.specs.Exchanging.{IsCalled}
 
 -- `Never any` is the course that no run has. A relation with `Never` in place of `goes_on` holds only for runs that do

@@ -1,12 +1,12 @@
 -- Defines how the initial site of a run applies the updates of a message.
 use Rattle.std.specs.Prelude.{◌≡◌, ℕ, List, ◌++◌}
-use Rattle.program_drills.specs.http_service.policy_grammar.declared.policy.Policy.{Policy}
-use Rattle.program_drills.specs.http_service.entity_data.declared.entity.Entity.{Entity}
+use Rattle.program_drills.specs.policy_grammar.declared.policy.Policy.{Policy}
+use Rattle.program_drills.specs.entity_data.declared.entity.Entity.{Entity}
 use Rattle.program_lines.specs.stamped_store.Store.{store_of, updates}
-use Rattle.state_exchanges.specs.message_format.declared.update.Update.{Update as SentUpdate}
-use Rattle.state_exchanges.specs.message_format.Updates.{plain_updates}
-use Rattle.site_loading.specs.site_steps.SiteViews.{SiteView, schema_of, store_in, IsSameSite}
-use Rattle.program_drills.specs.http_service.site_steps.sync_messages.Messages.{IsMessageOf}
+use Rattle.program_exchanges.specs.sync_format.declared.update.Update.{Update as SentUpdate}
+use Rattle.program_exchanges.specs.sync_format.Updates.{plain_updates}
+use Rattle.site_loading.specs.site.SiteViews.{SiteView, schema_of, store_in, IsSameSite}
+use Rattle.program_drills.specs.sync_messages.Messages.{IsMessageOf}
 
 -- `TakesState before bytes after` holds if the site `before` applied all updates of the message `bytes` and became
 -- `after`.

@@ -1,7 +1,7 @@
 -- Defines the outcome of each step of a run of `serve`.
 use Rattle.std.specs.Prelude.{◌≡◌, ℕ, zero, suc, Bool, true, false, List, [], ◌∷◌, ◌++◌, Some, Result, Ok, Err}
-use Rattle.state_exchanges.specs.http_streams.declared.devices.Source.{Ghosts as Source}
-use Rattle.state_exchanges.specs.http_streams.declared.devices.Sink.{Ghosts as Sink}
+use Rattle.program_exchanges.specs.http_streams.declared.devices.Source.{Ghosts as Source}
+use Rattle.program_exchanges.specs.http_streams.declared.devices.Sink.{Ghosts as Sink}
 use Rattle.program.specs.declared.device.Link.{Link}
 use Rattle.program.specs.declared.device.NetworkFailed.{NetworkFailed}
 use Rattle.program.specs.declared.device.Stream.TheVariants.{Faults}

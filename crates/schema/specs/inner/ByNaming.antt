@@ -6,8 +6,8 @@ use Rattle.hex.specs.Hex.{encode_lower}
 use Rattle.schema_types.specs.Outcome.{SomeHasNoExpansion}
 use Rattle.schema_types.specs.declared.fault.SchemaFault.{SchemaFault}
 use Rattle.schema_types.specs.declared.fault.SchemaFault.TheVariants.{TypeCycle, ActionCycle, TypeTooLarge}
-use Rattle.schema_names.specs.Qualifying.{ResolvedSchema}
-use Rattle.schema_names.specs.Naming.{DescribesFile, IsNamingError}
+use Rattle.schema_reading.specs.Qualifying.{ResolvedSchema}
+use Rattle.schema_reading.specs.Naming.{DescribesFile, IsNamingError}
 use Rattle.schema.specs.Schemas.{StatedSchema, IsSound, MatchesDeclarations, SomeActionIsOnCycle, SomeTypeIsTooLarge}
 use Rattle.schema.specs.Schemas.{IsSchemaOf, RefusedFor}
 use Rattle.schema.specs.WellFormed.{IsWellFormed}

@@ -7,7 +7,7 @@ use Rattle.schema.specs.Spans.{has_number}
 use Rattle.values.specs.declared.entity_uid.EntityUid.{EntityUid}
 use Rattle.values.specs.Names.{uid_cmp, text_cmp}
 use Rattle.ancestor_search.specs.Hierarchy.{Parents, IsAncestor, referenced}
-use Rattle.schema_names.specs.Qualifying.{ResolvedEntityType}
+use Rattle.schema_reading.specs.Qualifying.{ResolvedEntityType}
 use Rattle.schema.specs.LookUps.{has_number_at}
 use Rattle.schema.specs.declared.numbering.Numbered.{Numbered}
 use Rattle.schema.specs.declared.type_numbers.TypeNumbers.{TypeNumbers}

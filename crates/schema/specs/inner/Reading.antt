@@ -10,8 +10,8 @@ use Rattle.schema_types.specs.Mentions.{IsClosed}
 use Rattle.schema_types.specs.Outcome.{TypeRefused}
 use Rattle.schema_types.specs.declared.fault.SchemaFault.{SchemaFault}
 use Rattle.schema_types.specs.declared.fault.SchemaFault.TheVariants.{ActionCycle}
-use Rattle.schema_names.specs.Qualifying.{ResolvedSchema}
-use Rattle.schema_names.specs.Laws.{IsShapeOrContext}
+use Rattle.schema_reading.specs.Qualifying.{ResolvedSchema}
+use Rattle.schema_reading.specs.Laws.{IsShapeOrContext}
 use Rattle.schema.specs.Places.{environment_of}
 use Rattle.schema.specs.declared.reading.Types.{Types}
 use Rattle.schema.specs.declared.reading.Hierarchies.{Hierarchies}

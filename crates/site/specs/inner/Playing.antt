@@ -1,12 +1,12 @@
 -- Defines the effect of one event on the values of the code that represent a system: the sites, and the bytes of
 -- messages and summaries.
 use Rattle.std.specs.Prelude.{◌≡◌, ℕ, List, slice_get, Option, Some, None}
-use Rattle.site_steps.specs.schema.Schemas.{StatedSchema}
-use Rattle.site_steps.specs.stamped_store.Store.{Store}
-use Rattle.site_steps.specs.SiteViews.{SiteView}
-use Rattle.site_steps.specs.Inputs.{Input}
-use Rattle.site_steps.specs.declared.reply.Reply.{Reply}
-use Rattle.site_steps.specs.Runs.{Step}
+use Rattle.site_store.specs.schema.Schemas.{StatedSchema}
+use Rattle.site_store.specs.stamped_store.Store.{Store}
+use Rattle.site.specs.SiteViews.{SiteView}
+use Rattle.site.specs.Inputs.{Input}
+use Rattle.site.specs.declared.reply.Reply.{Reply}
+use Rattle.site.specs.Runs.{Step}
 use Rattle.site.specs.declared.event.Operation.{Operation}
 use Rattle.site.specs.declared.event.Event.{Event}
 use Rattle.site.specs.declared.event.EventReply.{EventReply}

@@ -1,6 +1,6 @@
 use Rattle.std.proofs.Common.{◌∙◌}
 use Rattle.entities.specs.Canonical.{canonical_text}
-use Rattle.entities.proofs.of_entity_uids.Appending.{text_written, json_written}
+use Rattle.entity_uids.proofs.Appending.{text_written, json_written}
 use Rattle.entities.proofs.canonical.canonical_text.Goals as goal
 
 pub returns-clause-text : goal.returns-clause-text

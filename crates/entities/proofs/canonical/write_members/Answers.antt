@@ -1,4 +1,4 @@
-use Rattle.entities.proofs.of_entity_uids.Appending.{wrote, ends}
+use Rattle.entity_uids.proofs.Appending.{wrote, ends}
 use Rattle.entities.proofs.CanonicalLemmas.{uid_written, entity_written}
 use Rattle.entities.proofs.canonical.write_members.Goals as goal
 

@@ -1,6 +1,6 @@
-use Rattle.entities.specs.entity_uids.Uids.{uid_json}
-use Rattle.entities.proofs.of_entity_uids.Appending.{wrote, ends}
-use Rattle.entities.proofs.of_entity_uids.Nested.{list_begun, list_next, list_ended}
+use Rattle.entity_uids.specs.Uids.{uid_json}
+use Rattle.entity_uids.proofs.Appending.{wrote, ends}
+use Rattle.entity_uids.proofs.Nested.{list_begun, list_next, list_ended}
 use Rattle.entities.proofs.CanonicalLemmas.{uid_written}
 use Rattle.entities.proofs.canonical.write_parents.Goals as goal
 

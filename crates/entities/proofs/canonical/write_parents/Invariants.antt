@@ -1,5 +1,5 @@
-use Rattle.entities.specs.entity_uids.Uids.{uid_json}
-use Rattle.entities.proofs.of_entity_uids.Nested.{IsInList}
+use Rattle.entity_uids.specs.Uids.{uid_json}
+use Rattle.entity_uids.proofs.Nested.{IsInList}
 use Rattle.entities.proofs.canonical.write_parents.Given as goal
 
 -- the parents from here on are left

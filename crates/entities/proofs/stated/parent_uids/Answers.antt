@@ -1,6 +1,6 @@
 use Rattle.std.proofs.Common.{◌∙◌, ap, sym}
 use Rattle.json_words.specs.ReadsAs.{or_fault}
-use Rattle.entities.proofs.of_entity_uids.ListLemmas.{array_names}
+use Rattle.entity_uids.proofs.ListLemmas.{array_names}
 use Rattle.entities.specs.declared.fault.EntityFault.TheVariants.{BadShape}
 use Rattle.entities.specs.EntityForms.{uids_of}
 use Rattle.entities.proofs.stated.parent_uids.Goals as goal

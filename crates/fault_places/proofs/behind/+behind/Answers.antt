@@ -1,7 +1,7 @@
 use Rattle.std.proofs.Common.{◌≡◌, ℕ, ◌+◌, map, length, refl, sym, ap, ◌∙◌, drop, arith, rules}
 use denote.Param.Weighed.{at_most}
-use Rattle.grammar_trees.specs.declared.tree.ExprTree.TheVariants as t
-use Rattle.grammar_trees.specs.declared.tree.ExprTree.TheViews as v
+use Rattle.grammar_syntax.specs.declared.tree.ExprTree.TheVariants as t
+use Rattle.grammar_syntax.specs.declared.tree.ExprTree.TheViews as v
 use Rattle.fault_places.specs.TokenCounts.{tree_count, term_count, entry_count, access_tree_count, each_count, total, lone_count, path_count, uid_count}
 use Rattle.fault_places.proofs.Dropping.{twice, one_more, counted, turned, length-mapped}
 use Rattle.fault_places.proofs.Counts.{count-Uid, count-Call, count-Parentheses, count-Set, count-Record, count-Member, count-prefix, count-chain, count-Sum, count-Compare, count-postfix, count-Is, count-IsIn, count-If}

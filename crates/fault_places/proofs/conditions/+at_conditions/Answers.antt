@@ -1,5 +1,5 @@
 use Rattle.std.proofs.Common.{◌-◌, ap, ◌∙◌, List, length, take, drop}
-use Rattle.grammar_policies.specs.declared.tree.Condition.{Condition}
+use Rattle.grammar_parsing.specs.declared.tree.Condition.{Condition}
 use Rattle.fault_places.specs.Places.{at_condition, at_conditions, condition_count, if_stop, joint_at}
 use Rattle.fault_places.proofs.Turning.{stop-other, conditions_none, conditions_one, conditions_more}
 use Rattle.fault_places.proofs.conditions.+at_conditions.Goals as goal

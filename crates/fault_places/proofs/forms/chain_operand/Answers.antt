@@ -1,7 +1,7 @@
 use Rattle.std.proofs.Common.{◌≡◌, ◌∙◌, ◌-◌, ap, ℕ, List, drop, take, map, length, slice_get}
 use Rattle.std.specs.Option.{option_map}
-use Rattle.grammar_trees.specs.grammar_tokens.declared.token.Token.{Token}
-use Rattle.grammar_trees.specs.declared.tree.ExprTree.{ExprTree}
+use Rattle.grammar_syntax.specs.declared.token.Token.{Token}
+use Rattle.grammar_syntax.specs.declared.tree.ExprTree.{ExprTree}
 use Rattle.fault_places.specs.TokenCounts.{tree_count, each_count}
 use Rattle.fault_places.specs.Forms.{form_of, whole, kept, row_at, piece_at}
 use Rattle.fault_places.proofs.Dropping.{swapped}

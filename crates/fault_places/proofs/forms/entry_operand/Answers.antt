@@ -1,8 +1,8 @@
 use Rattle.std.proofs.Common.{◌∙◌, ap, ℕ, List, Some, drop, take, map, slice_get}
 use Rattle.std.specs.Option.{option_map}
-use Rattle.grammar_trees.specs.grammar_tokens.declared.token.Token.{Token}
-use Rattle.grammar_trees.specs.declared.tree.ExprTree.{ExprTree}
-use Rattle.grammar_trees.specs.declared.tree.RecordEntry.{RecordEntry}
+use Rattle.grammar_syntax.specs.declared.token.Token.{Token}
+use Rattle.grammar_syntax.specs.declared.tree.ExprTree.{ExprTree}
+use Rattle.grammar_syntax.specs.declared.tree.RecordEntry.{RecordEntry}
 use Rattle.fault_places.specs.TokenCounts.{entry_count, each_count}
 use Rattle.fault_places.specs.Forms.{Form, whole}
 use Rattle.fault_places.proofs.forms.entry_operand.Goals as goal

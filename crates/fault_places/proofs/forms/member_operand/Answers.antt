@@ -1,8 +1,8 @@
 use Rattle.std.proofs.Common.{◌≡◌, ◌∙◌, ◌-◌, ap, sym, ℕ, List, Option, None, drop, take, map, length, slice_get}
 use Rattle.std.specs.Option.{option_and_then, option_map}
-use Rattle.grammar_trees.specs.grammar_tokens.declared.token.Token.{Token}
-use Rattle.grammar_trees.specs.declared.tree.ExprTree.{ExprTree}
-use Rattle.grammar_trees.specs.declared.tree.Access.{Access}
+use Rattle.grammar_syntax.specs.declared.token.Token.{Token}
+use Rattle.grammar_syntax.specs.declared.tree.ExprTree.{ExprTree}
+use Rattle.grammar_syntax.specs.declared.tree.Access.{Access}
 use Rattle.fault_places.specs.TokenCounts.{tree_count, access_tree_count, total}
 use Rattle.fault_places.specs.Forms.{Form, form_of, kept, argument_at, row_at}
 use Rattle.fault_places.proofs.Opening.{member-argument}

@@ -1,6 +1,6 @@
 use Rattle.std.proofs.Common.{sym, ap, ◌∙◌}
-use Rattle.grammar_trees.specs.declared.tree.ExprTree.{out-ExprTree}
-use Rattle.grammar_trees.specs.declared.tree.ExprTree.TheVariants as t
+use Rattle.grammar_syntax.specs.declared.tree.ExprTree.{out-ExprTree}
+use Rattle.grammar_syntax.specs.declared.tree.ExprTree.TheVariants as t
 use Rattle.fault_places.specs.Forms.{minus_operand}
 use Rattle.fault_places.proofs.Opening.{minus_operand-other}
 use Rattle.fault_places.proofs.forms.negated_operand.Goals as goal

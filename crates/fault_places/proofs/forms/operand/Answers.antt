@@ -1,7 +1,7 @@
 use Rattle.std.proofs.Common.{ap, ◌∙◌, drop}
-use Rattle.grammar_trees.specs.declared.tree.ExprTree.{out-ExprTree}
-use Rattle.grammar_trees.specs.declared.tree.ExprTree.TheVariants as t
-use Rattle.grammar_trees.specs.declared.tree.ExprTree.TheOpen.{ExprTree-F as tree}
+use Rattle.grammar_syntax.specs.declared.tree.ExprTree.{out-ExprTree}
+use Rattle.grammar_syntax.specs.declared.tree.ExprTree.TheVariants as t
+use Rattle.grammar_syntax.specs.declared.tree.ExprTree.TheOpen.{ExprTree-F as tree}
 use Rattle.fault_places.specs.Forms.{form_of, row_at, entry_at, one_at, minus_operand, compared_at}
 use Rattle.fault_places.proofs.Opening.{seen, seen-chain, seen-postfix, operand-leaf}
 use Rattle.fault_places.proofs.forms.operand.Goals as goal

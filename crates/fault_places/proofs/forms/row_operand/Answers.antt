@@ -1,7 +1,7 @@
 use Rattle.std.proofs.Common.{◌∙◌, ap, ℕ, List, Some, drop, take, map, slice_get}
 use Rattle.std.specs.Option.{option_map}
-use Rattle.grammar_trees.specs.grammar_tokens.declared.token.Token.{Token}
-use Rattle.grammar_trees.specs.declared.tree.ExprTree.{ExprTree}
+use Rattle.grammar_syntax.specs.declared.token.Token.{Token}
+use Rattle.grammar_syntax.specs.declared.tree.ExprTree.{ExprTree}
 use Rattle.fault_places.specs.TokenCounts.{tree_count, each_count}
 use Rattle.fault_places.specs.Forms.{Form, whole}
 use Rattle.fault_places.proofs.forms.row_operand.Goals as goal

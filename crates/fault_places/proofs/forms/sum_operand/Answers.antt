@@ -1,8 +1,8 @@
 use Rattle.std.proofs.Common.{◌≡◌, ◌∙◌, ◌-◌, ap, ℕ, List, Option, Some, None, drop, take, map, length, slice_get}
 use Rattle.std.specs.Option.{option_map}
-use Rattle.grammar_trees.specs.grammar_tokens.declared.token.Token.{Token}
-use Rattle.grammar_trees.specs.declared.tree.ExprTree.{ExprTree}
-use Rattle.grammar_trees.specs.declared.tree.Term.{Term}
+use Rattle.grammar_syntax.specs.declared.token.Token.{Token}
+use Rattle.grammar_syntax.specs.declared.tree.ExprTree.{ExprTree}
+use Rattle.grammar_syntax.specs.declared.tree.Term.{Term}
 use Rattle.fault_places.specs.TokenCounts.{tree_count, term_count, each_count}
 use Rattle.fault_places.specs.Forms.{Form, form_of, whole, kept, term_at}
 use Rattle.fault_places.proofs.Opening.{chain-second}

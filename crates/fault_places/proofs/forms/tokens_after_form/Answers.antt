@@ -1,6 +1,6 @@
 use Rattle.std.proofs.Common.{ap, sym, ◌∙◌, drop, take, map, length}
-use Rattle.grammar_trees.specs.declared.tree.ExprTree.TheVariants as t
-use Rattle.grammar_trees.specs.declared.tree.ExprTree.TheOpen.{ExprTree-F as tree}
+use Rattle.grammar_syntax.specs.declared.tree.ExprTree.TheVariants as t
+use Rattle.grammar_syntax.specs.declared.tree.ExprTree.TheOpen.{ExprTree-F as tree}
 use Rattle.fault_places.specs.TokenCounts.{tree_count, term_count, access_tree_count, each_count, total}
 use Rattle.fault_places.specs.Forms.{form_of, kept, tokens_after_test}
 use Rattle.fault_places.proofs.Opening.{seen_behind, seen_behind-chain, behind-other, test-other}

@@ -1,7 +1,7 @@
 use Rattle.std.proofs.Common.{◌≡◌, ◌⊎◌, inl, inr, ◌+◌, sym, ap, ◌∙◌, drop, length, List, map, arith}
-use Rattle.grammar_trees.specs.grammar_tokens.declared.tree.UidTree.{UidTree}
-use Rattle.grammar_policies.specs.declared.tree.ActionTree.{ActionTree}
-use Rattle.grammar_policies.specs.declared.tree.ActionTree.TheVariants.{Equal, In, InList}
+use Rattle.grammar_syntax.specs.declared.name_trees.UidTree.{UidTree}
+use Rattle.grammar_parsing.specs.declared.tree.ActionTree.{ActionTree}
+use Rattle.grammar_parsing.specs.declared.tree.ActionTree.TheVariants.{Equal, In, InList}
 use Rattle.fault_places.specs.TokenCounts.{uid_count, each_count, lone_count}
 use Rattle.fault_places.proofs.Dropping.{twice, length-mapped}
 use Rattle.fault_places.specs.Places.{action_count}

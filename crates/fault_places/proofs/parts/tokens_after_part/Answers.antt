@@ -1,7 +1,7 @@
 use Rattle.std.proofs.Common.{◌≡◌, ◌⊎◌, inl, inr, ◌+◌, sym, ap, ◌∙◌, drop}
-use Rattle.grammar_trees.specs.grammar_tokens.declared.tree.UidTree.{UidTree}
-use Rattle.grammar_policies.specs.declared.tree.PartTree.{PartTree}
-use Rattle.grammar_policies.specs.declared.tree.PartTree.TheVariants.{Equal, In}
+use Rattle.grammar_syntax.specs.declared.name_trees.UidTree.{UidTree}
+use Rattle.grammar_parsing.specs.declared.tree.PartTree.{PartTree}
+use Rattle.grammar_parsing.specs.declared.tree.PartTree.TheVariants.{Equal, In}
 use Rattle.fault_places.specs.TokenCounts.{path_count, uid_count}
 use Rattle.fault_places.proofs.Dropping.{twice}
 use Rattle.fault_places.specs.Places.{part_count}

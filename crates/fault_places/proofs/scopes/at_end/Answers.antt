@@ -1,6 +1,6 @@
 use Rattle.std.proofs.Common.{List, Option, ap, ◌∙◌}
 use Rattle.std.specs.Option.{option_map}
-use Rattle.grammar_trees.specs.grammar_tokens.declared.token.Token.{Token}
+use Rattle.grammar_syntax.specs.declared.token.Token.{Token}
 use Rattle.fault_places.specs.Names.{at_end}
 use Rattle.fault_places.proofs.Turning.{end-other}
 use Rattle.fault_places.proofs.scopes.at_end.Goals as goal

@@ -1,5 +1,5 @@
 use Rattle.std.proofs.Common.{inr, refl, sym, subst}
-use Rattle.grammar_trees.specs.grammar_tokens.Lexing.{IsLexed, IsFault}
+use Rattle.grammar_syntax.specs.Lexing.{IsLexed, IsFault}
 use Rattle.fault_places.proofs.Unread.{bad_is_no_policy}
 use Rattle.fault_places.proofs.spans.span_by.Goals as goal
 

@@ -1,10 +1,10 @@
 use Rattle.std.proofs.Common.{rules, refl, ◌≡◌, ◌∙◌, ◌+◌, ◌++◌, ◌∷◌, [], ap, sym, subst, ℕ, List, map, take, IfOk}
 use Rattle.std.proofs.lemmas.List.{at_drop_all}
 use Rattle.std.specs.List.{AllByRecursion, fold}
-use Rattle.grammar_trees.specs.declared.tree.Access.{Access}
-use Rattle.grammar_trees.specs.declared.tree.RecordEntry.{RecordEntry}
-use Rattle.grammar_trees.specs.declared.tree.Term.{Term}
-use Rattle.grammar_trees.specs.declared.tree.ExprTree.{ExprTree, the_lemmas}
+use Rattle.grammar_syntax.specs.declared.tree.Access.{Access}
+use Rattle.grammar_syntax.specs.declared.tree.RecordEntry.{RecordEntry}
+use Rattle.grammar_syntax.specs.declared.tree.Term.{Term}
+use Rattle.grammar_syntax.specs.declared.tree.ExprTree.{ExprTree, the_lemmas}
 use Rattle.grammar_core.specs.declared.operator.Unary.TheVariants as unary
 use Rattle.grammar_core.specs.declared.operator.Binary.TheVariants as binary
 use Rattle.grammar_core.specs.declared.expr.Expr.{Expr}
@@ -16,7 +16,7 @@ use Rattle.grammar_desugaring.specs.Core.{core_of, negated, field, in_entry, in_
 use Rattle.grammar_desugaring.specs.Core.{compared, called, method_called, function}
 use Rattle.grammar_core.specs.Operators.{method_of}
 use Rattle.grammar_desugaring.specs.declared.forms.Chain.{Chain}
-use Rattle.grammar_trees.specs.grammar_tokens.Lexing.{spelling_of}
+use Rattle.grammar_syntax.specs.Lexing.{spelling_of}
 use Rattle.grammar_desugaring.specs.inner.WellFormed.{WellFormed, AllWellFormed, WellFormedEntry, WellFormedTerm}
 use Rattle.grammar_desugaring.specs.inner.WellFormed.{WellFormedAccess}
 use Rattle.grammar_desugaring.specs.inner.Giving.{Gave}

@@ -1,6 +1,6 @@
 use Rattle.std.proofs.Common.{◌≡◌, ◌+◌, ◌*◌, max, drop, take, map}
 use Rattle.std.specs.List.{fold}
-use Rattle.grammar_trees.proofs.tree.ExprTree.TheLaws.{the_size}
+use Rattle.grammar_syntax.proofs.tree.ExprTree.TheLaws.{the_size}
 use Rattle.grammar_desugaring.specs.Core.{core_of, field, in_entry, in_term, in_access, added, accessed, joined_by}
 use Rattle.grammar_desugaring.proofs.build.+build.Given as goal
 

@@ -1,7 +1,7 @@
 use Rattle.std.proofs.Common.{rules, refl, ◌≡◌, ◌∙◌, ap, sym, subst, map, length, IfOk}
 use Rattle.std.proofs.lemmas.List.{at_drop_all}
 use Rattle.std.specs.List.{AllByRecursion, fold}
-use Rattle.grammar_trees.specs.declared.tree.ExprTree.{the_lemmas}
+use Rattle.grammar_syntax.specs.declared.tree.ExprTree.{the_lemmas}
 use Rattle.grammar_desugaring.specs.ReportedErrors.{least}
 use Rattle.grammar_desugaring.specs.Repeats.{repeat_faults}
 use Rattle.grammar_desugaring.specs.Faults.{key_of, function_faults}

@@ -1,6 +1,6 @@
 use Rattle.std.proofs.Common.{◌≡◌, ◌+◌, ◌*◌, max, drop}
 use Rattle.std.specs.List.{fold}
-use Rattle.grammar_trees.proofs.tree.ExprTree.TheLaws.{the_size}
+use Rattle.grammar_syntax.proofs.tree.ExprTree.TheLaws.{the_size}
 use Rattle.grammar_desugaring.specs.TreeMeasures.{measured}
 use Rattle.grammar_desugaring.specs.Sums.{nothing, side_by_side, measured_all, measured_chain, measured_term, measured_entry, measured_access}
 use Rattle.grammar_desugaring.proofs.measuring.+measuring.Given as goal

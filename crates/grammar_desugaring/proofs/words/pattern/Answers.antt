@@ -1,5 +1,5 @@
 use Rattle.std.proofs.Common.{◌∙◌}
-use Rattle.grammar_trees.specs.grammar_tokens.Lexing.{spelling_of}
+use Rattle.grammar_syntax.specs.Lexing.{spelling_of}
 use Rattle.grammar_desugaring.specs.inner.StringReading.{string_meaning}
 use Rattle.grammar_desugaring.proofs.words.pattern.Goals as goal
 

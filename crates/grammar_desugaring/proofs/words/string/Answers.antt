@@ -1,6 +1,6 @@
 use Rattle.std.proofs.Common.{◌≡◌}
-use Rattle.grammar_trees.specs.grammar_tokens.Lexing.{spelling_of}
-use Rattle.grammar_trees.specs.grammar_tokens.Strings.{IsStringOf}
+use Rattle.grammar_syntax.specs.Lexing.{spelling_of}
+use Rattle.grammar_syntax.specs.Strings.{IsStringOf}
 use Rattle.grammar_desugaring.specs.Strings.{value_of}
 use Rattle.grammar_desugaring.proofs.Idents.{text-kind}
 use Rattle.grammar_desugaring.specs.inner.StringReading.{string_meaning}

@@ -1,6 +1,6 @@
 use Rattle.std.proofs.Common.{◌≡◌, ◌∙◌, ◌∷◌, map, subst}
 use Rattle.std.proofs.lemmas.List.{take_all}
-use Rattle.grammar_trees.specs.grammar_tokens.Lexing.{spelling_of}
+use Rattle.grammar_syntax.specs.Lexing.{spelling_of}
 use Rattle.grammar_desugaring.proofs.Lists.{all-at}
 use Rattle.grammar_desugaring.proofs.Idents.{ident-kind, words-first, words-more}
 use Rattle.grammar_desugaring.proofs.words.words_of.Goals as goal

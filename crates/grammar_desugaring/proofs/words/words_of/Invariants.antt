@@ -1,6 +1,6 @@
 use Rattle.std.proofs.Common.{◌≡◌, ◌∷◌, map, take}
 use Rattle.plain.specs.Words.{AreIdents}
-use Rattle.grammar_trees.specs.grammar_tokens.Lexing.{spelling_of}
+use Rattle.grammar_syntax.specs.Lexing.{spelling_of}
 use Rattle.grammar_desugaring.proofs.words.words_of.Given as goal
 
 -- the words up to here

@@ -1,5 +1,5 @@
 use Rattle.std.proofs.Common.{[], ◌∷◌, refl}
-use Rattle.site_calls.specs.site_steps.SiteViews.{schema_of, store_in}
+use Rattle.http_replies.specs.site.SiteViews.{schema_of, store_in}
 use Rattle.http_service.proofs.laws.served_answers_are_sound.Goals as goal
 
 pub returns : goal.returns

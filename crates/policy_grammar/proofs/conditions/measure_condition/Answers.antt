@@ -1,6 +1,6 @@
 use Rattle.std.proofs.Common.{ap, sym, ◌∙◌}
 use Rattle.grammar_core.specs.declared.operator.Unary.TheVariants.{Not}
-use Rattle.grammar_policies.specs.declared.tree.ConditionWord.TheVariants as word
+use Rattle.grammar_parsing.specs.declared.tree.ConditionWord.TheVariants as word
 use Rattle.grammar_desugaring.specs.Core.{core_of}
 use Rattle.grammar_desugaring.specs.Faults.{faults_of}
 use Rattle.grammar_desugaring.specs.TreeMeasures.{of}

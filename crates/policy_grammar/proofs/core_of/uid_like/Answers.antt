@@ -1,5 +1,5 @@
 use Rattle.std.proofs.Common.{ℕ, List, ◌∙◌, ap}
-use Rattle.grammar_desugaring.specs.grammar_tokens.Lexing.{spelling_of}
+use Rattle.grammar_desugaring.specs.grammar_syntax.Lexing.{spelling_of}
 use Rattle.values.specs.declared.entity_uid.EntityUid.{EntityUid}
 use Rattle.grammar_desugaring.specs.Meaning.{path_name}
 use Rattle.policy_grammar.proofs.Lists.{text-kind}

@@ -1,7 +1,7 @@
 use Rattle.std.proofs.Common.{ℕ, List, sym, subst}
 use Rattle.std.proofs.lemmas.Result.{IfOk-weaker}
-use Rattle.grammar_desugaring.specs.grammar_tokens.Lexing.{spelling_of}
-use Rattle.grammar_desugaring.specs.grammar_tokens.Strings.{IsStringOf}
+use Rattle.grammar_desugaring.specs.grammar_syntax.Lexing.{spelling_of}
+use Rattle.grammar_desugaring.specs.grammar_syntax.Strings.{IsStringOf}
 use Rattle.policy_grammar.proofs.known_names.id_like.Goals as goal
 
 pub returns-in-Some : goal.returns-in-Some

@@ -2,9 +2,9 @@ use Rattle.std.proofs.Common.{◌≡◌, ◌∙◌, ℕ, List, [], map, sym, ap,
 use Rattle.std.specs.Str.{bytes_eq}
 use Rattle.std.proofs.lemmas.Slice.Eq.{bytes_eq-Decides}
 use Rattle.plain.specs.Words.{joined_path}
-use Rattle.grammar_desugaring.specs.grammar_tokens.Lexing.{spelling_of}
-use Rattle.grammar_desugaring.specs.grammar_tokens.Grammar.{identifiers}
-use Rattle.grammar_desugaring.specs.grammar_tokens.declared.tree.PathTree.{PathTree}
+use Rattle.grammar_desugaring.specs.grammar_syntax.Lexing.{spelling_of}
+use Rattle.grammar_desugaring.specs.grammar_syntax.Grammar.{identifiers}
+use Rattle.grammar_desugaring.specs.grammar_syntax.declared.name_trees.PathTree.{PathTree}
 use Rattle.grammar_desugaring.specs.Meaning.{path_name}
 use Rattle.grammar_desugaring.proofs.WellFormedLemmas.{token_in}
 use Rattle.policy_grammar.proofs.known_names.is_written.Goals as goal

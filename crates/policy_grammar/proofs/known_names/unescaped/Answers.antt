@@ -1,7 +1,7 @@
 use Rattle.std.proofs.Common.{◌≡◌, ◌∷◌, ◌∙◌, ℕ, List, Some, sym, ap, subst, lit<, false}
 use Rattle.std.proofs.lemmas.Str.Pattern.{strip_prefix_char, strip_suffix_char}
-use Rattle.grammar_desugaring.specs.grammar_tokens.declared.token.TokenKind.{TokenKind}
-use Rattle.grammar_desugaring.specs.grammar_tokens.Lexing.{IsToken, spelling_of}
+use Rattle.grammar_desugaring.specs.grammar_syntax.declared.token.TokenKind.{TokenKind}
+use Rattle.grammar_desugaring.specs.grammar_syntax.Lexing.{IsToken, spelling_of}
 use Rattle.policy_grammar.proofs.Unescaped.{has_slash, states_body}
 use Rattle.policy_grammar.proofs.known_names.unescaped.Goals as goal
 

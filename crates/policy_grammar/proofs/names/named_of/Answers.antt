@@ -1,5 +1,5 @@
 use Rattle.std.proofs.Common.{◌≡◌, sym, ap, ◌∙◌, ◌++◌, ◌∷◌, [], append_assoc, arith, subst, IfOk}
-use Rattle.grammar_policies.specs.WellFormed.{WellFormedPolicy}
+use Rattle.grammar_parsing.specs.WellFormed.{WellFormedPolicy}
 use Rattle.policy_grammar.specs.CoreOf.{IsCoreOf}
 use Rattle.policy_grammar.specs.Conditions.{condition_faults}
 use Rattle.policy_grammar.proofs.Naming.{cores, among, none-left, name-left, names-all, cores-all, words-step, cores-step}

@@ -1,5 +1,5 @@
 use Rattle.std.proofs.Common.{subst}
-use Rattle.grammar_policies.specs.WellFormed.{WellFormedValue}
+use Rattle.grammar_parsing.specs.WellFormed.{WellFormedValue}
 use Rattle.policy_grammar.proofs.Lists.{text-kind}
 use Rattle.policy_grammar.proofs.names.value_of.Goals as goal
 

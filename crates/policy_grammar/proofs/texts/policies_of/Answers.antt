@@ -1,6 +1,6 @@
 use Rattle.std.proofs.Common.{◌≡◌, ℕ, List, Option, [], All, inl, inr, map, refl, sym, subst, ap, ◌∙◌}
 use Rattle.grammar_desugaring.specs.declared.fault.DesugarFault.{DesugarFault}
-use Rattle.grammar_policies.specs.declared.tree.PolicyTree.{PolicyTree}
+use Rattle.grammar_parsing.specs.declared.tree.PolicyTree.{PolicyTree}
 use Rattle.policy_grammar.specs.inner.Parts.{ReportsFile}
 use Rattle.std.specs.List.{AllByRecursion, flat_map}
 use Rattle.grammar_desugaring.specs.ReportedErrors.{least}

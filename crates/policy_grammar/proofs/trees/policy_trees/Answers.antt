@@ -1,9 +1,9 @@
 use Rattle.std.proofs.Common.{◌≡◌, ◌⊎◌, ap, sym, subst, ◌∙◌}
-use Rattle.grammar_desugaring.specs.grammar_tokens.declared.fault.SyntaxFault.TheVariants as syntax
-use Rattle.grammar_policies.specs.grammar_expressions.Expressions.{nesting_limit}
-use Rattle.grammar_desugaring.specs.grammar_tokens.Lang.{at_any}
-use Rattle.grammar_desugaring.specs.grammar_tokens.ParseResults.{IsRefusedWithin}
-use Rattle.grammar_policies.specs.Grammar as grammar
+use Rattle.grammar_desugaring.specs.grammar_syntax.declared.fault.SyntaxFault.TheVariants as syntax
+use Rattle.grammar_parsing.specs.Expressions.{nesting_limit}
+use Rattle.grammar_desugaring.specs.grammar_syntax.Lang.{at_any}
+use Rattle.grammar_desugaring.specs.grammar_syntax.ParseResults.{IsRefusedWithin}
+use Rattle.grammar_parsing.specs.Grammar as grammar
 use Rattle.policy_grammar.specs.Texts.{most_file_bytes, IsUnread}
 use Rattle.plain.specs.AllocationErrors.{OrNoMemory}
 use Rattle.policy_grammar.specs.declared.fault.ReadFault.TheVariants as fault

@@ -1,7 +1,7 @@
 use Rattle.std.proofs.Common.{◌≡◌, ◌⊎◌, ap, sym, subst, ◌∙◌}
-use Rattle.grammar_desugaring.specs.grammar_tokens.declared.fault.SyntaxFault.TheVariants as syntax
-use Rattle.grammar_desugaring.specs.grammar_tokens.ParseResults.{IsRefusedWithin}
-use Rattle.grammar_policies.specs.Grammar as grammar
+use Rattle.grammar_desugaring.specs.grammar_syntax.declared.fault.SyntaxFault.TheVariants as syntax
+use Rattle.grammar_desugaring.specs.grammar_syntax.ParseResults.{IsRefusedWithin}
+use Rattle.grammar_parsing.specs.Grammar as grammar
 use Rattle.policy_grammar.specs.Texts.{most_policy_bytes, IsUnread}
 use Rattle.plain.specs.AllocationErrors.{OrNoMemory}
 use Rattle.policy_grammar.specs.declared.fault.ReadFault.TheVariants as fault

@@ -1,6 +1,6 @@
 use Rattle.std.proofs.Common.{ℕ, List, Option, Bor, IfOk, IfErr, option_map, sym, subst}
 use Rattle.plain.specs.AllocationErrors.{OrNoMemory}
-use Rattle.program_drills.specs.http_service.answer_lines.Refusals.{no_memory}
+use Rattle.program_drills.specs.answer_lines.Refusals.{no_memory}
 use Rattle.program.specs.Runs.{IsDecided, IsNotDecided}
 use Rattle.program.proofs.commands.decide.Goals as goal
 

@@ -1,4 +1,4 @@
-use Rattle.site_loading.specs.site_steps.SiteViews.{schema_of}
+use Rattle.site_loading.specs.site.SiteViews.{schema_of}
 use Rattle.program.proofs.ServeLemmas.{refused_as_told}
 use Rattle.program.proofs.initial_site.with_state.Goals as goal
 

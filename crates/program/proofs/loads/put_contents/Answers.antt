@@ -1,7 +1,7 @@
 use Rattle.std.proofs.Common.{None, option_map, inl, subst}
 use Rattle.std.specs.Process.{exit_status}
 use Rattle.explanations.specs.Files.{Files}
-use Rattle.site_loading.specs.site_steps.SiteViews.{schema_of, store_in}
+use Rattle.site_loading.specs.site.SiteViews.{schema_of, store_in}
 use Rattle.site_loading.specs.Loads as loads
 use Rattle.program.specs.Events.{Runs}
 use Rattle.program.specs.ExplainOption.{IsRefusalText, IsErrorReported, Explains}

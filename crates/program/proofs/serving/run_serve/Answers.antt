@@ -1,7 +1,7 @@
 use Rattle.std.proofs.Common.{ℕ, List, option_map}
 use Rattle.program_lines.specs.declared.line.ServeOptions.{ServeOptions}
-use Rattle.state_exchanges.specs.http_streams.declared.devices.Source.{Ghosts as Source}
-use Rattle.state_exchanges.specs.http_streams.declared.devices.Sink.{Ghosts as Sink}
+use Rattle.program_exchanges.specs.http_streams.declared.devices.Source.{Ghosts as Source}
+use Rattle.program_exchanges.specs.http_streams.declared.devices.Sink.{Ghosts as Sink}
 use Rattle.program.specs.declared.device.Link.{Link}
 use Rattle.program.specs.Courses.{Course, ReadsIfNamed}
 use Rattle.program.specs.Serving.{IsServedFrom}

@@ -1,9 +1,9 @@
 use Rattle.std.proofs.Common.{ap, option_map, Option}
 use Rattle.std.specs.Process.{exit_status}
 use Rattle.program_lines.specs.declared.line.ServeOptions.{ServeOptions}
-use Rattle.state_exchanges.specs.http_streams.declared.devices.Source.{Ghosts as Source}
-use Rattle.state_exchanges.specs.http_streams.declared.devices.Sink.{Ghosts as Sink}
-use Rattle.site_loading.specs.site_steps.SiteViews.{SiteView}
+use Rattle.program_exchanges.specs.http_streams.declared.devices.Source.{Ghosts as Source}
+use Rattle.program_exchanges.specs.http_streams.declared.devices.Sink.{Ghosts as Sink}
+use Rattle.site_loading.specs.site.SiteViews.{SiteView}
 use Rattle.program.specs.declared.device.Link.{Link}
 use Rattle.program.specs.Courses.{ClosesAfter, Course, OpensIfNamed}
 use Rattle.program.specs.Serving.{IsServedIfListening, own_stamps_line}

@@ -1,5 +1,5 @@
 use Rattle.std.proofs.Common.{Err, Ok, refl}
-use Rattle.state_exchanges.specs.http_streams.declared.serve.LoggedFault.TheVariants.{Stream}
+use Rattle.program_exchanges.specs.http_streams.declared.serve.LoggedFault.TheVariants.{Stream}
 use Rattle.program.proofs.ServeLemmas.{logged_over, unlogged_over}
 use Rattle.program.proofs.serving.serve_link.Goals as goal
 

@@ -1,7 +1,7 @@
 use Rattle.std.proofs.Common.{inl, subst}
 use Rattle.std.specs.Process.{exit_status}
 use Rattle.explanations.specs.Files.{Files}
-use Rattle.state_exchanges.specs.Merges.{IsMerged, AreRefused}
+use Rattle.program_exchanges.specs.Merges.{IsMerged, AreRefused}
 use Rattle.program.specs.Events.{Runs}
 use Rattle.program.specs.ExplainOption.{schema_files, IsErrorReported, Explains}
 use Rattle.program.specs.Merging.{IsMergeText}

@@ -1,8 +1,8 @@
 use Rattle.std.proofs.Common.{ℕ, List, Option, option_map}
 use Rattle.std.specs.Process.{exit_status}
 use Rattle.program_lines.specs.declared.line.PullOptions.{PullOptions}
-use Rattle.state_exchanges.specs.http_streams.declared.devices.Source.{Ghosts as Source}
-use Rattle.state_exchanges.specs.http_streams.declared.devices.Sink.{Ghosts as Sink}
+use Rattle.program_exchanges.specs.http_streams.declared.devices.Source.{Ghosts as Source}
+use Rattle.program_exchanges.specs.http_streams.declared.devices.Sink.{Ghosts as Sink}
 use Rattle.program.specs.declared.device.Link.{Link}
 use Rattle.program.specs.Courses.{Course, Connects, ReadsIfThere}
 use Rattle.program.specs.Pulling.{IsPulledOver}

@@ -1,6 +1,6 @@
 use Rattle.std.proofs.Common.{◌≡◌, ◌+◌, ◌++◌, ◌∷◌, [], sym, ap, ◌∙◌, List, map, take, arith}
 use Rattle.std.proofs.lemmas.List.{take_more}
-use Rattle.http_service.specs.site_calls.site_steps.SiteViews.{SiteView}
+use Rattle.http_service.specs.site.SiteViews.{SiteView}
 use Rattle.program_drills.specs.EventReports.{state_line}
 use Rattle.program_drills.specs.inner.LineFeeds.{ended}
 use Rattle.program_drills.proofs.EndedLines.{states_more}

@@ -1,6 +1,6 @@
 use Rattle.std.proofs.Common.{ap, option_map}
 use Rattle.std.proofs.lemmas.Result.{MatchResult-weaker}
-use Rattle.schema_names.specs.ResolvedViews.{resolved_applies_to_view, resolved_action_view}
+use Rattle.schema_reading.specs.ResolvedViews.{resolved_applies_to_view, resolved_action_view}
 use Rattle.schema.proofs.UseLemmas.{uses_as}
 use Rattle.schema.proofs.environments.add_action.Goals as goal
 

@@ -1,7 +1,7 @@
 use Rattle.std.proofs.Common.{ℕ, List, sym, subst}
 use Rattle.schema_types.specs.CedarViews.{cedar_view}
 use Rattle.schema_types.specs.declared.cedar.CedarType.{CedarType}
-use Rattle.schema_names.specs.ResolvedViews.{resolved_applies_to_view}
+use Rattle.schema_reading.specs.ResolvedViews.{resolved_applies_to_view}
 use Rattle.schema.specs.Schemas.{IsRecordOf}
 use Rattle.schema.specs.inner.Making.{AddsPrincipals}
 use Rattle.schema.proofs.UseLemmas.{used_as}

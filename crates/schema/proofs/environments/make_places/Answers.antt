@@ -2,7 +2,7 @@ use Rattle.std.proofs.Common.{map}
 use Rattle.std.proofs.lemmas.Result.{err_from_is_err_and}
 use Rattle.std.specs.BTreeMap.{get}
 use Rattle.schema.specs.Schemas.{place_cmp}
-use Rattle.schema_names.specs.ResolvedViews.{resolved_action_view}
+use Rattle.schema_reading.specs.ResolvedViews.{resolved_action_view}
 use Rattle.schema.specs.inner.Making.{ActionMay, ActionMust, IsContextWritten}
 use Rattle.schema.proofs.FillingLemmas.{adds_first, each_step, each_end, contains_item, get_empty}
 use Rattle.schema.proofs.environments.make_places.Goals as goal

@@ -1,5 +1,5 @@
 use Rattle.std.proofs.Common.{map, drop}
-use Rattle.schema_names.specs.ResolvedViews.{resolved_action_view}
+use Rattle.schema_reading.specs.ResolvedViews.{resolved_action_view}
 use Rattle.schema.specs.inner.Making.{Places, AddsActions, ArePlaces}
 use Rattle.schema.proofs.environments.make_places.Given as goal
 

@@ -2,8 +2,8 @@ use Rattle.std.proofs.Common.{◌∙◌, ◌+◌, List, map, drop, sym, ap}
 use Rattle.std.proofs.lemmas.List.{drop_all}
 use Rattle.ancestor_search.specs.Hierarchy.{Parents}
 use Rattle.ancestor_search.specs.contracts.searched.SearchedAncestry.TheImpl as searched
-use Rattle.schema_names.specs.ResolvedViews.{resolved_action_view}
-use Rattle.schema_names.specs.declared.qualifying.ResolvedAction.{ResolvedAction}
+use Rattle.schema_reading.specs.ResolvedViews.{resolved_action_view}
+use Rattle.schema_reading.specs.declared.qualifying.ResolvedAction.{ResolvedAction}
 use Rattle.schema.specs.Schemas.{with_actions}
 use Rattle.json_words.proofs.EachSame.{cut}
 use Rattle.schema.proofs.hierarchies.action_edges.Goals as goal

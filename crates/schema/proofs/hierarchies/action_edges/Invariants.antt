@@ -1,7 +1,7 @@
 use Rattle.std.proofs.Common.{◌≡◌, map, drop}
 use Rattle.ancestor_search.specs.Hierarchy.{no_parents}
 use Rattle.ancestor_search.specs.contracts.searched.SearchedAncestry.TheImpl as searched
-use Rattle.schema_names.specs.ResolvedViews.{resolved_action_view}
+use Rattle.schema_reading.specs.ResolvedViews.{resolved_action_view}
 use Rattle.schema.specs.Schemas.{with_actions}
 use Rattle.schema.proofs.hierarchies.action_edges.Given as goal
 

@@ -1,7 +1,7 @@
 use Rattle.std.proofs.Common.{sym, ap, ◌∙◌}
 use Rattle.ancestor_search.specs.contracts.searched.SearchedAncestry.TheImpl as searched
 use Rattle.values.specs.Names.{uid_cmp-IsAntisymmetric}
-use Rattle.schema_names.specs.ResolvedViews.{resolved_action_view}
+use Rattle.schema_reading.specs.ResolvedViews.{resolved_action_view}
 use Rattle.schema.specs.inner.Making.{MemberMay, MemberMust}
 use Rattle.schema.proofs.FillingLemmas.{adds_entry}
 use Rattle.schema.proofs.hierarchies.add_member.Goals as goal

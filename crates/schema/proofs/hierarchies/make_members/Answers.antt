@@ -3,7 +3,7 @@ use Rattle.std.specs.Prelude.{⊤}
 use Rattle.ancestor_search.specs.contracts.searched.SearchedAncestry.TheImpl as searched
 use Rattle.std.specs.BTreeMap.{get}
 use Rattle.values.specs.Names.{uid_cmp}
-use Rattle.schema_names.specs.ResolvedViews.{resolved_action_view}
+use Rattle.schema_reading.specs.ResolvedViews.{resolved_action_view}
 use Rattle.schema.specs.inner.Making.{MemberMay, MemberMust}
 use Rattle.schema.proofs.FillingLemmas.{adds_first, each_step, each_end, get_empty}
 use Rattle.schema.proofs.hierarchies.make_members.Goals as goal

@@ -2,7 +2,7 @@ use Rattle.std.proofs.Common.{List, map, drop}
 use Rattle.std.specs.BTreeMap.{BTreeMap}
 use Rattle.ancestor_search.specs.contracts.searched.SearchedAncestry.TheImpl as searched
 use Rattle.values.specs.declared.entity_uid.EntityUid.{EntityUid}
-use Rattle.schema_names.specs.ResolvedViews.{resolved_action_view}
+use Rattle.schema_reading.specs.ResolvedViews.{resolved_action_view}
 use Rattle.schema.specs.inner.Making.{AddsMembers, AreMembers}
 use Rattle.schema.proofs.hierarchies.make_members.Given as goal
 

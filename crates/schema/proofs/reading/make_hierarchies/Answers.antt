@@ -4,9 +4,9 @@ use Rattle.values.specs.declared.entity_uid.EntityUid.{EntityUid}
 use Rattle.values.specs.Names.{uid_cmp}
 use Rattle.ancestor_search.specs.Hierarchy.{Parents, no_parents}
 use Rattle.ancestor_search.specs.contracts.searched.SearchedAncestry.TheImpl as searched
-use Rattle.schema_names.specs.ResolvedViews.{resolved_view, resolved_entity_type_view, resolved_action_view}
-use Rattle.schema_names.specs.declared.qualifying.ResolvedEntityType.{ResolvedEntityType}
-use Rattle.schema_names.specs.declared.qualifying.ResolvedAction.{ResolvedAction}
+use Rattle.schema_reading.specs.ResolvedViews.{resolved_view, resolved_entity_type_view, resolved_action_view}
+use Rattle.schema_reading.specs.declared.qualifying.ResolvedEntityType.{ResolvedEntityType}
+use Rattle.schema_reading.specs.declared.qualifying.ResolvedAction.{ResolvedAction}
 use Rattle.schema.specs.Schemas.{with_types}
 use Rattle.schema.specs.inner.Making.{AreMembers}
 use Rattle.schema.specs.inner.Numbering.{NumbersAll, AreAncestors, AreNumbers}

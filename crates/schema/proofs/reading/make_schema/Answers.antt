@@ -1,5 +1,5 @@
-use Rattle.schema_names.specs.ResolvedViews.{resolved_view}
-use Rattle.schema_written_types.specs.TableViews.{type_table}
+use Rattle.schema_reading.specs.ResolvedViews.{resolved_view}
+use Rattle.schema_types.specs.TableViews.{type_table}
 use Rattle.schema.proofs.AnswersLemmas.{made_schema}
 use Rattle.schema.proofs.SoundLemmas.{records_written, is_sound}
 use Rattle.schema.proofs.reading.make_schema.Goals as goal

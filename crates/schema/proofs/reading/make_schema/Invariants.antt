@@ -1,4 +1,4 @@
-use Rattle.schema_names.specs.ResolvedViews.{resolved_view}
+use Rattle.schema_reading.specs.ResolvedViews.{resolved_view}
 use Rattle.schema.proofs.reading.make_schema.Given as goal
 
 abbrev pub ghost-make_types : goal.ghost-make_types

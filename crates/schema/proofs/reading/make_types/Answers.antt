@@ -1,7 +1,7 @@
 use Rattle.std.proofs.Common.{List, map, subst}
-use Rattle.schema_names.specs.ResolvedViews.{resolved_entity_type_view, resolved_action_view}
-use Rattle.schema_names.specs.declared.qualifying.ResolvedEntityType.{ResolvedEntityType}
-use Rattle.schema_names.specs.declared.qualifying.ResolvedAction.{ResolvedAction}
+use Rattle.schema_reading.specs.ResolvedViews.{resolved_entity_type_view, resolved_action_view}
+use Rattle.schema_reading.specs.declared.qualifying.ResolvedEntityType.{ResolvedEntityType}
+use Rattle.schema_reading.specs.declared.qualifying.ResolvedAction.{ResolvedAction}
 use Rattle.schema.specs.inner.Making.{AreShapes, ArePlaces}
 use Rattle.schema.proofs.reading.make_types.Goals as goal
 

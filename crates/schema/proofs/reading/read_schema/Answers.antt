@@ -1,5 +1,5 @@
 use Rattle.std.proofs.lemmas.Result.{err_from_is_err_and, MatchResult-weaker}
-use Rattle.schema_names.specs.ResolvedViews.{resolved_view}
+use Rattle.schema_reading.specs.ResolvedViews.{resolved_view}
 use Rattle.schema.specs.inner.ByNaming.{naming, unsound}
 use Rattle.schema.proofs.reading.read_schema.Goals as goal
 

@@ -1,11 +1,11 @@
 use Rattle.std.proofs.Common.{List, map, subst}
 use Rattle.std.proofs.lemmas.Result.{err_from_is_err_and, MatchResult-weaker}
-use Rattle.schema_written_types.specs.TypeTables.{AreWritten}
+use Rattle.schema_types.specs.TypeTables.{AreWritten}
 use Rattle.schema_types.specs.Outcome.{CommonsRefused, SizesRefused}
 use Rattle.schema_types.specs.QualifiedViews.{resolved_common_view}
-use Rattle.schema_written_types.specs.TableViews.{type_table}
+use Rattle.schema_types.specs.TableViews.{type_table}
 use Rattle.schema_types.specs.declared.qualified.ResolvedCommon.{ResolvedCommon}
-use Rattle.schema_names.specs.ResolvedViews.{resolved_view}
+use Rattle.schema_reading.specs.ResolvedViews.{resolved_view}
 use Rattle.schema.proofs.SoundLemmas.{all_end, commons_refused, edges_refused, sizes_refused, types_refused}
 use Rattle.schema.proofs.reading.sound_schema.Goals as goal
 

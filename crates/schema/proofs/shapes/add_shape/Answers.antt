@@ -1,6 +1,6 @@
 use Rattle.std.proofs.Common.{sym, ◌∙◌}
 use Rattle.values.specs.Names.{text_cmp-IsAntisymmetric}
-use Rattle.schema_names.specs.ResolvedViews.{resolved_entity_type_view}
+use Rattle.schema_reading.specs.ResolvedViews.{resolved_entity_type_view}
 use Rattle.schema.specs.inner.Making.{ShapeMay, ShapeMust, HasSmallExpansionAt}
 use Rattle.schema.proofs.FillingLemmas.{adds_entry}
 use Rattle.schema.proofs.shapes.add_shape.Goals as goal

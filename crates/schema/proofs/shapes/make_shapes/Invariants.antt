@@ -1,6 +1,6 @@
 use Rattle.std.proofs.Common.{ℕ, List, map, drop}
 use Rattle.std.specs.BTreeMap.{BTreeMap}
-use Rattle.schema_names.specs.ResolvedViews.{resolved_entity_type_view}
+use Rattle.schema_reading.specs.ResolvedViews.{resolved_entity_type_view}
 use Rattle.schema.specs.declared.parts.EntityDecl.{EntityDecl}
 use Rattle.schema.specs.inner.Making.{AddsShapes, AreShapes}
 use Rattle.schema.proofs.shapes.make_shapes.Given as goal

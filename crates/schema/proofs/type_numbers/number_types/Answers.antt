@@ -3,7 +3,7 @@ use Rattle.std.specs.BTreeMap.{get}
 use Rattle.ancestor_search.specs.contracts.searched.SearchedAncestry.TheImpl as searched
 use Rattle.values.specs.declared.entity_uid.EntityUid.{EntityUid}
 use Rattle.values.specs.Names.{uid_cmp}
-use Rattle.schema_names.specs.ResolvedViews.{resolved_entity_type_view}
+use Rattle.schema_reading.specs.ResolvedViews.{resolved_entity_type_view}
 use Rattle.schema.specs.inner.Numbering.{NumbersAll, AreNames}
 use Rattle.schema.proofs.NumberLemmas.{types_numbered}
 use Rattle.schema.proofs.type_numbers.number_types.Goals as goal

@@ -1,5 +1,5 @@
 use Rattle.std.proofs.Common.{◌≡◌, map, take}
-use Rattle.schema_names.specs.ResolvedViews.{resolved_entity_type_view}
+use Rattle.schema_reading.specs.ResolvedViews.{resolved_entity_type_view}
 use Rattle.schema.specs.inner.Numbering.{type_points}
 use Rattle.schema.proofs.type_numbers.points_of.Given as goal
 

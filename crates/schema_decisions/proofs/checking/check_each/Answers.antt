@@ -1,5 +1,5 @@
 use Rattle.std.proofs.Common.{◌∙◌, ◌++◌, ◌==◌, ◌||◌, ap, Bool, List, ℕ}
-use Rattle.validator.specs.schema.Views.{schema_view}
+use Rattle.entity_hierarchy.specs.schema.Views.{schema_view}
 use Rattle.schema_decisions.specs.Lines.{verdict_line}
 use Rattle.schema_decisions.specs.inner.Named.{outcome_of, set_apart}
 use Rattle.schema_decisions.proofs.TellingLemmas.{report-step}

@@ -1,5 +1,5 @@
 use Rattle.std.proofs.Common.{take}
-use Rattle.validator.specs.schema.Views.{schema_view}
+use Rattle.entity_hierarchy.specs.schema.Views.{schema_view}
 use Rattle.schema_decisions.specs.Checks.{AreReportsOf}
 use Rattle.schema_decisions.specs.inner.Named.{named_in}
 use Rattle.schema_decisions.proofs.checking.check_each.Given as goal

@@ -1,4 +1,4 @@
-use Rattle.validator.specs.schema.Views.{schema_view}
+use Rattle.entity_hierarchy.specs.schema.Views.{schema_view}
 use Rattle.schema_decisions.proofs.TellingLemmas.{has_file_reports}
 use Rattle.schema_decisions.proofs.checking.check_file.Goals as goal
 

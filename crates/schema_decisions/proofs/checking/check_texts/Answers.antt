@@ -1,5 +1,5 @@
 use Rattle.std.proofs.lemmas.Result.{IfOk-weaker}
-use Rattle.validator.specs.schema.Views.{schema_view}
+use Rattle.entity_hierarchy.specs.schema.Views.{schema_view}
 use Rattle.schema_decisions.proofs.TellingLemmas.{are_checked}
 use Rattle.schema_decisions.proofs.checking.check_texts.Goals as goal
 

@@ -1,8 +1,8 @@
 use Rattle.std.proofs.Common.{subst, sym}
 use Rattle.std.specs.Str.{IsUtf8}
 use Rattle.site.proofs.Labels.{digits_are_utf8}
-use Rattle.site_steps.proofs.RunLemmas.{texts_of}
-use Rattle.site_steps.specs.schema.Views.{schema_view}
+use Rattle.site.proofs.RunLemmas.{texts_of}
+use Rattle.site_store.specs.schema.Views.{schema_view}
 use Rattle.site.proofs.Growing.{StoreLaws}
 use Rattle.site.proofs.StepFacts.{CommandLaws}
 use Rattle.site.proofs.Happening.{SendingLaws}

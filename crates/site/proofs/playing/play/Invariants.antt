@@ -1,5 +1,5 @@
 use Rattle.std.proofs.Common.{List, take}
-use Rattle.site_steps.specs.schema.Schemas.{StatedSchema}
+use Rattle.site_store.specs.schema.Schemas.{StatedSchema}
 use Rattle.site.specs.Sites.{SiteName, start}
 use Rattle.site.specs.SystemViews.{IsRunTo, IsViewOf}
 use Rattle.site.proofs.playing.play.Given as goal

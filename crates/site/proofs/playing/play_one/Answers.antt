@@ -1,6 +1,6 @@
 use Rattle.std.proofs.Common.{arith, subst, Option}
-use Rattle.site_steps.specs.declared.reply.Reply.{Reply}
-use Rattle.site_steps.specs.SiteViews.{schema_of, store_in}
+use Rattle.site.specs.declared.reply.Reply.{Reply}
+use Rattle.site.specs.SiteViews.{schema_of, store_in}
 use Rattle.site.specs.inner.Playing.{AnswersOperation, input_among}
 use Rattle.site.proofs.Played.{plays_at_zero, plays_beyond, plays_unmade, plays_replied}
 use Rattle.site.proofs.playing.play_one.Goals as goal

@@ -1,6 +1,6 @@
 use Rattle.std.proofs.Common.{sym, subst, List, ◌+◌}
-use Rattle.site_steps.specs.schema.Views.{schema_view}
-use Rattle.site_steps.specs.SiteViews.{SiteView}
+use Rattle.site_store.specs.schema.Views.{schema_view}
+use Rattle.site.specs.SiteViews.{SiteView}
 use Rattle.site.specs.Sites.{first_sites, start}
 use Rattle.site.specs.SystemViews.{AreSitesOf}
 use Rattle.site.proofs.Played.{more_sites}

@@ -1,4 +1,4 @@
-use Rattle.site_steps.specs.schema.Views.{schema_view}
+use Rattle.site_store.specs.schema.Views.{schema_view}
 use Rattle.site.specs.Sites.{first_sites, start}
 use Rattle.site.specs.SystemViews.{AreSitesOf}
 use Rattle.site.proofs.world.new_sites.Given as goal

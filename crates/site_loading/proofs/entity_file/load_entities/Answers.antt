@@ -1,10 +1,10 @@
 use Rattle.std.proofs.Common.{◌≡◌, ◌∙◌, Ok, sym, subst}
-use Rattle.schema_decisions.proofs.of_json_words.Readings.{array_begun, none_begun}
+use Rattle.json_words.proofs.Readings.{array_begun, none_begun}
 use Rattle.schema_decisions.specs.schema.SchemaEntries.{SchemaEntries}
 use Rattle.schema_decisions.specs.schema.Views.{schema_view}
 use Rattle.schema_decisions.specs.decision_texts.EntityArrays.{entities_of}
 use Rattle.schema_decisions.specs.UnderSchema.{reading_under}
-use Rattle.site_steps.specs.SiteViews.{schema_of, store_in}
+use Rattle.site.specs.SiteViews.{schema_of, store_in}
 use Rattle.site_loading.proofs.LoadLemmas.{some_members, members_are, items_are, entities_loaded, entities_refused}
 use Rattle.site_loading.proofs.entity_file.load_entities.Goals as goal
 

@@ -1,9 +1,9 @@
 use Rattle.std.proofs.Common.{refl, arith}
 use Rattle.std.proofs.lemmas.Result.{err_from_is_err_and}
 use Rattle.serde_json.specs.View.{view}
-use Rattle.schema_decisions.specs.json_words.Arrays.{unread_members}
-use Rattle.schema_decisions.proofs.of_json_words.Readings.{value_told, fewer_left, end_told, not_json_told}
-use Rattle.site_steps.specs.SiteViews.{schema_of, store_in}
+use Rattle.json_words.specs.Arrays.{unread_members}
+use Rattle.json_words.proofs.Readings.{value_told, fewer_left, end_told, not_json_told}
+use Rattle.site.specs.SiteViews.{schema_of, store_in}
 use Rattle.site_loading.specs.Puts.{entity_put}
 use Rattle.site_loading.proofs.PutLemmas.{all_left, one_put, one_refused, all_put, none_put, accepts_same, refuses_same}
 use Rattle.site_loading.proofs.PutLemmas.{same_on}

@@ -1,6 +1,6 @@
 use Rattle.std.proofs.Common.{◌+◌, ◌≤◌, length}
-use Rattle.schema_decisions.specs.json_words.Arrays.{unread_members}
-use Rattle.site_steps.specs.SiteViews.{schema_of, store_in, IsSameSite}
+use Rattle.json_words.specs.Arrays.{unread_members}
+use Rattle.site.specs.SiteViews.{schema_of, store_in, IsSameSite}
 use Rattle.site_loading.proofs.PutLemmas.{AreAlong}
 use Rattle.site_loading.proofs.entity_file.put_each.Given as goal
 

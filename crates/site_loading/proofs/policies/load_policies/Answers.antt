@@ -1,7 +1,7 @@
 use Rattle.std.proofs.Common.{List, ℕ, subst, sym, Bor}
 use Rattle.schema_decisions.specs.decision_texts.Decisions.{ArePoliciesOf}
-use Rattle.grammar_files.specs.Cuts.{AreTextsOf}
-use Rattle.site_steps.specs.SiteViews.{schema_of, store_in}
+use Rattle.policy_grammar.specs.Cuts.{AreTextsOf}
+use Rattle.site.specs.SiteViews.{schema_of, store_in}
 use Rattle.site_loading.proofs.LoadLemmas.{Files, words, cores, nows, as_many_there, policies_loaded, policies_refused}
 use Rattle.site_loading.proofs.policies.load_policies.Goals as goal
 

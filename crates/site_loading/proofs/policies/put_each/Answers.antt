@@ -4,7 +4,7 @@ use Rattle.plain.specs.AllocationErrors.{OrNoMemory}
 use Rattle.schema_decisions.specs.answer_lines.Refusals.{no_memory}
 use Rattle.site_loading.specs.Loads.{policy_puts}
 use Rattle.site_loading.proofs.LoadLemmas.{words, nows, none, next_puts}
-use Rattle.site_steps.specs.SiteViews.{schema_of, store_in}
+use Rattle.site.specs.SiteViews.{schema_of, store_in}
 use Rattle.site_loading.specs.Puts.{policy_put, Accepts, RefusesAt}
 use Rattle.site_loading.proofs.PutLemmas.{steps, stops, accepts_same, refuses_same, same_on}
 use Rattle.site_loading.proofs.policies.put_each.Goals as goal

@@ -1,5 +1,5 @@
 use Rattle.std.proofs.Common.{drop}
-use Rattle.site_steps.specs.SiteViews.{schema_of, store_in, IsSameSite}
+use Rattle.site.specs.SiteViews.{schema_of, store_in, IsSameSite}
 use Rattle.site_loading.specs.Loads.{policy_puts}
 use Rattle.site_loading.proofs.PutLemmas.{Along}
 use Rattle.site_loading.proofs.LoadLemmas.{words, nows}

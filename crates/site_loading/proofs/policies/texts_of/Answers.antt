@@ -1,6 +1,6 @@
 use Rattle.std.proofs.Common.{subst}
-use Rattle.grammar_files.specs.grammar_tokens.declared.lex_fault.LexFault.{LexFault}
-use Rattle.grammar_files.specs.grammar_tokens.Lexing.{IsFault}
+use Rattle.policy_grammar.specs.grammar_syntax.declared.lex_fault.LexFault.{LexFault}
+use Rattle.policy_grammar.specs.grammar_syntax.Lexing.{IsFault}
 use Rattle.site_loading.proofs.LoadLemmas.{no_bad_token}
 use Rattle.site_loading.proofs.policies.texts_of.Goals as goal
 

@@ -1,4 +1,4 @@
-use Rattle.site.specs.site_steps.schema.Views.{schema_view}
+use Rattle.site.specs.schema.Views.{schema_view}
 use Rattle.site_theorems.proofs.Systems.{promises_as_stated}
 use Rattle.site_theorems.proofs.laws.worlds_keep_promises_as_stated.Goals as goal
 

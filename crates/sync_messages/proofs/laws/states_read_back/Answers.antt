@@ -1,4 +1,4 @@
-use Rattle.message_format.specs.Messages.{state_text, delta_text}
+use Rattle.sync_format.specs.Messages.{state_text, delta_text}
 use Rattle.sync_messages.proofs.ReadBackLemmas.{described}
 use Rattle.sync_messages.proofs.laws.states_read_back.Goals as goal
 

@@ -1,5 +1,5 @@
 use Rattle.sync_messages.proofs.MessageLemmas.{message_of, fault_of}
-use Rattle.validator.specs.entities.schema.Views.{schema_view}
+use Rattle.validator.specs.schema.Views.{schema_view}
 use Rattle.sync_messages.proofs.messages.read_message.Goals as goal
 
 pub returns-in-Ok-clause-read : goal.returns-in-Ok-clause-read

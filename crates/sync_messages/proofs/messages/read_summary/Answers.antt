@@ -1,8 +1,8 @@
 use Rattle.std.proofs.Common.{ℕ, List, subst}
 use Rattle.json_words.specs.ReadsAs.{ReadsAs}
-use Rattle.message_format.specs.declared.fault.MessageFault.TheVariants.{NoMemory}
-use Rattle.message_format.specs.Summaries.{summary_stated}
-use Rattle.validator.specs.entities.schema.Views.{schema_view}
+use Rattle.sync_format.specs.declared.fault.MessageFault.TheVariants.{NoMemory}
+use Rattle.sync_format.specs.Summaries.{summary_stated}
+use Rattle.validator.specs.schema.Views.{schema_view}
 use Rattle.sync_messages.proofs.SummaryStated.{summary_as_stated}
 use Rattle.sync_messages.proofs.messages.read_summary.Goals as goal
 

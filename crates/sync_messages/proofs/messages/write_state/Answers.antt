@@ -2,9 +2,9 @@ use Rattle.std.proofs.Common.{◌≡◌, ℕ, List, Ok, subst}
 use Rattle.std.specs.Prelude.{IfOk}
 use Rattle.std.proofs.lemmas.Result.{IfOk-weaker}
 use Rattle.stamped_store.specs.Store.{abstract_store, updates}
-use Rattle.message_format.specs.Messages.{updates_stated}
-use Rattle.message_format.specs.Updates.{AreInRange}
-use Rattle.validator.specs.entities.schema.Views.{schema_view}
+use Rattle.sync_format.specs.Messages.{updates_stated}
+use Rattle.sync_format.specs.Updates.{AreInRange}
+use Rattle.validator.specs.schema.Views.{schema_view}
 use Rattle.sync_messages.proofs.ReadBackLemmas.{described}
 use Rattle.sync_messages.proofs.messages.write_state.Goals as goal
 

@@ -1,4 +1,4 @@
-use Rattle.validator.specs.entities.schema.Views.{schema_view}
+use Rattle.validator.specs.schema.Views.{schema_view}
 use Rattle.sync_messages.proofs.FaultLemmas.{unpassed_is_refused}
 use Rattle.sync_messages.proofs.texts.demand_passing.Goals as goal
 

@@ -1,4 +1,4 @@
-use Rattle.validator.specs.entities.schema.Views.{schema_view}
+use Rattle.validator.specs.schema.Views.{schema_view}
 use Rattle.sync_messages.proofs.FaultLemmas.{unread_is_refused}
 use Rattle.sync_messages.proofs.texts.passing_policy.Goals as goal
 

@@ -1,4 +1,4 @@
-use Rattle.evaluator.specs.grammar_core.declared.expr.Expr.{Expr}
+use Rattle.grammar_core.specs.declared.expr.Expr.{Expr}
 use Rattle.typing.proofs.Sound.{is_sound, nothing}
 use Rattle.typing.proofs.Policies.{boolean_fits, never_true}
 use Rattle.typing.proofs.laws.typed_expressions_are_sound.Goals as goal

@@ -1,6 +1,0 @@
-use Rattle.std.proofs.Common.{map, drop}
-use Rattle.grammar_files.proofs.Cutting.{IsCut}
-use Rattle.grammar_files.proofs.cuts.cut.Given as goal
-
-abbrev pub invariant-loop-token : goal.invariant-loop-token
-invariant-loop-token l = IsCut l.text l.tokens (map (λ t. t.now) l.texts.items) l.from (drop l.token-index l.tokens)

@@ -1,6 +1,0 @@
-use Rattle.grammar_files.proofs.Counting.{as_many}
-use Rattle.grammar_files.proofs.Deriving.{each_derives}
-use Rattle.grammar_files.proofs.laws.files_are_cut_by_policies.Goals as goal
-
-pub returns : goal.returns
-returns c = record { as_many = as_many c.lexing_is_unique.ensures.one_list; each = each_derives }

@@ -1,2 +1,0 @@
-pub mod Included
-pub mod Parsing

@@ -1,0 +1,2 @@
+pub mod Tokenizing
+pub mod Lesser

@@ -1,7 +1,0 @@
-use Rattle.std.proofs.Common.{◌≡◌, ◌-◌}
-use Rattle.grammar_tokens.specs.Parsing as spec
-use Rattle.grammar_tokens.proofs.UidLoop.{taken}
-use Rattle.grammar_tokens.proofs.names.rest_of_uid.Given as goal
-
-abbrev pub invariant-loop-turn : goal.invariant-loop-turn
-invariant-loop-turn l = spec.rest_of_uid l.fn.first l.fn.tokens.rest.now ≡ taken (l._turn-end - l._turn) l.fn.first l.more l.tokens.rest.now

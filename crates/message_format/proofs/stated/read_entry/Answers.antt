@@ -1,7 +1,0 @@
-use Rattle.std.proofs.Common.{rules}
-use Rattle.message_format.specs.Messages.{entry_in, entry_by}
-use Rattle.message_format.proofs.stated.read_entry.Goals as goal
-
-pub returns : goal.returns
-unfolding entry_in entry_by
-returns c = search rules

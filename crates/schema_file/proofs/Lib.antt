@@ -1,2 +1,0 @@
-mod OnceLemmas
-mod TypesLemmas

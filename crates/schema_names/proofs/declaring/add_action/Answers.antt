@@ -1,6 +1,0 @@
-use Rattle.schema_file.specs.schema_types.Actions.{action_type, action_uid}
-use Rattle.schema_names.proofs.AddLemmas.{uid_added}
-use Rattle.schema_names.proofs.declaring.add_action.Goals as goal
-
-pub returns : goal.returns
-returns c = uid_added c.args.declared.now c.insert.new.self _ (action_uid (action_type c.args.own.now) c.args.action.now.id) c.in_ok-uid.ensures c.in_ok-insert.ensures.updates

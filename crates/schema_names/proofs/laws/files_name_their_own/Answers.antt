@@ -1,5 +1,0 @@
-use Rattle.schema_names.proofs.FoundLemmas.{names_its_own as law}
-use Rattle.schema_names.proofs.laws.files_name_their_own.Goals as goal
-
-pub returns : goal.returns
-returns c = law c.found_names_are_declared.ensures.commons

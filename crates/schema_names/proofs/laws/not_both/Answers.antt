@@ -1,5 +1,0 @@
-use Rattle.schema_names.proofs.OutcomeLemmas.{not_both as law}
-use Rattle.schema_names.proofs.laws.not_both.Goals as goal
-
-pub returns : goal.returns
-returns c = law

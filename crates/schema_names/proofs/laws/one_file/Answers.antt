@@ -1,5 +1,0 @@
-use Rattle.schema_names.proofs.OutcomeLemmas.{one_file as law}
-use Rattle.schema_names.proofs.laws.one_file.Goals as goal
-
-pub returns : goal.returns
-returns c = law

@@ -1,5 +1,0 @@
-use Rattle.schema_names.proofs.OutcomeLemmas.{one_refusal as law}
-use Rattle.schema_names.proofs.laws.one_refusal.Goals as goal
-
-pub returns : goal.returns
-returns c = law

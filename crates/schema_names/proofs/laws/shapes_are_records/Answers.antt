@@ -1,5 +1,0 @@
-use Rattle.schema_names.proofs.ShapeLemmas.{shapes_are_records as law}
-use Rattle.schema_names.proofs.laws.shapes_are_records.Goals as goal
-
-pub returns : goal.returns
-returns c = law

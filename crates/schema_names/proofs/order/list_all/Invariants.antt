@@ -1,9 +1,0 @@
-use Rattle.std.proofs.Common.{◌≡◌, ◌++◌, map, drop}
-use Rattle.schema_file.specs.StatedViews.{namespace_view}
-use Rattle.schema_names.specs.Qualifying.{commons_declared}
-use Rattle.schema_names.specs.inner.Uses.{listed_view}
-use Rattle.schema_names.proofs.order.list_all.Given as goal
-
-abbrev pub invariant-loop-namespace : goal.invariant-loop-namespace
-invariant-loop-namespace l =
-    commons_declared (map namespace_view l.stated) ≡ map listed_view l.listed.items ++ commons_declared (map namespace_view (drop l.namespace-index l.stated))

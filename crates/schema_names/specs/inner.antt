@@ -1,3 +1,0 @@
-pub mod Adding
-pub mod Spreading
-pub mod Uses

@@ -1,0 +1,8 @@
+use Rattle.std.proofs.Common.{refl}
+use Rattle.json_words.specs.Each.{each_member}
+use Rattle.schema_reading.specs.FileForm.{commons_of}
+use Rattle.schema_reading.proofs.reading.read_optional_commons.Goals as goal
+
+pub returns-in-None : goal.returns-in-None
+unfolding commons_of each_member
+returns-in-None c = rw (c.in-None.is, c.new.ensures) refl

@@ -1,0 +1,5 @@
+pub mod Adding
+pub mod Spreading
+pub mod Uses
+pub mod FileLaws
+pub mod StatedViews

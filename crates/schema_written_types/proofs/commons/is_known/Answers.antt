@@ -1,8 +1,0 @@
-use Rattle.std.proofs.Common.{rules}
-use Rattle.schema_written_types.proofs.commons.is_known.Goals as goal
-
-pub returns-in-Some : goal.returns-in-Some
-returns-in-Some c = search rules
-
-pub returns-in-None : goal.returns-in-None
-returns-in-None c = search rules

@@ -1,4 +1,0 @@
-pub mod Orders
-pub mod inner
-pub mod TypeTables
-pub mod TableViews

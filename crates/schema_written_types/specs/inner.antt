@@ -1,4 +1,0 @@
-pub mod Ordering
-pub mod Order
-pub mod Rounds
-pub mod Table

@@ -1,5 +1,0 @@
-mod ExampleText
-mod ExampleStated
-mod ExampleRead
-mod ExampleConforms
-mod ExamplePasses

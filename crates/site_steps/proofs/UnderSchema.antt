@@ -1,6 +1,0 @@
--- The parser of a schema's texts.
-use Rattle.site_store.specs.schema.SchemaEntries.{SchemaEntries}
-use Rattle.site_soundness.specs.sync_messages.declared.texts.SchemaTexts.{SchemaTexts}
-
-abbrev pub texts_of : SchemaEntries → SchemaTexts
-texts_of schema = record { schema = record { ref_ptr = (0, 0); now = schema } }

@@ -1,5 +1,0 @@
-use Rattle.std.proofs.Common.{rules}
-use Rattle.site_steps.proofs.checking.copy_text.Goals as goal
-
-pub returns : goal.returns
-returns c = search rules

@@ -1,5 +1,0 @@
-use Rattle.site_steps.proofs.PermittedRuns.{runs_are_sound as law}
-use Rattle.site_steps.proofs.laws.runs_are_sound.Goals as goal
-
-pub returns : goal.returns
-returns c = law c.stored_answers_are_sound.ensures.answers

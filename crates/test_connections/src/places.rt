@@ -1,0 +1,84 @@
+//! Tables for the service of these tests, and scripts of events.
+ghost use Rattle.std.specs.Prelude.{◌≡◌, ◌≤◌, IfOk, length};
+ghost use Rattle.connections.specs.Rounds.{AreReady};
+ghost use Rattle.test_connections.specs.Pairs.{IsLess};
+
+use crate::counter::Counter;
+use crate::lines::Lines;
+use connections::event::{Event, handle};
+use connections::laws::tables_are_ready;
+use connections::slot::{Reason, Slot};
+use connections::table::new_table;
+use std::alloc::{AllocError, Global};
+
+/// Creates a table of `places` free slots.
+pub fn ready_table(alloc: Global, places: usize) -> Result<Vec<Slot>, AllocError>
+    ensures ready { IfOk result (λ table. AreReady IsLess table.items) }
+    ensures places { IfOk result (λ table. length table.items ≡ places) }
+{
+    tables_are_ready::<Counter>();
+    new_table(alloc, places)
+}
+
+/// Returns the event that four bytes stand for: what happens, at which slot, with which byte, at which second.
+pub fn event_of(alloc: Global, code: &[u8]) -> Result<Event, AllocError>
+    requires { 4 ≤ length code.now }
+{
+    let at = code[1].wrapping_sub(b'0') as usize;
+    let byte = code[2];
+    let now = code[3].wrapping_sub(b'0') as u64 * 1_000;
+    let event = match code[0] {
+        b'o' => Event::Accepted(at, now),
+        b'r' => Event::Readied(at),
+        b'f' => Event::Finished(at),
+        b'>' => Event::Writable(at, byte.wrapping_sub(b'0') as usize, now),
+        b'*' => Event::Writable(at, usize::MAX, now),
+        b'c' => Event::Closed(at, Reason::Over),
+        b'O' => Event::ClosedAll(Reason::Over),
+        b'C' => Event::ClosedAll(Reason::Uncommitted),
+        b'L' => Event::ClosedAll(Reason::Unlogged),
+        b'E' => Event::ClosedAll(Reason::Expired(5_000, now)),
+        b'.' => Event::Round(at),
+        _ => return arrived(alloc, at, byte, now),
+    };
+    Ok(event)
+}
+
+/// Returns the event of one byte that came.
+fn arrived(alloc: Global, at: usize, byte: u8, now: u64) -> Result<Event, AllocError> {
+    let bytes = Vec::from_slice(alloc, &[byte])?;
+    Ok(Event::Arrived(at, bytes, now))
+}
+
+/// Handles the event of four bytes.
+fn play_one(
+    alloc: Global,
+    slots: &mut [Slot],
+    service: &mut Counter,
+    log: &mut Lines,
+    code: &[u8],
+) -> Result<(), AllocError>
+    requires code { 4 ≤ length code.now }
+    requires ready { AreReady IsLess slots.old }
+    ensures { AreReady IsLess slots.new }
+{
+    let event = event_of(alloc, code)?;
+    handle(slots, service, log, &event)
+}
+
+/// Handles the events of a script, four bytes each.
+pub fn play(
+    alloc: Global,
+    slots: &mut [Slot],
+    service: &mut Counter,
+    log: &mut Lines,
+    script: &[u8],
+) -> Result<(), AllocError>
+    requires { AreReady IsLess slots.old }
+    ensures { AreReady IsLess slots.new }
+{
+    for code in script.chunks_exact(4) {
+        play_one(alloc, slots, service, log, code)?;
+    }
+    Ok(())
+}
