@@ -1,7 +1,7 @@
 #!/usr/bin/env python3
 """Measures one authorize in the process and over loopback HTTP.
 
-    embedding/cost.py PROGRAM        (after tools/embedding.py, which builds the library)
+    embedding/cost.py PROGRAM        (after tests/embedding.py, which builds the library)
 
 Prints microseconds, the best of five rounds: with 10 and with 10,000 policies from C, and with 10 from Python, and over HTTP
 on one connection, from C and from Python. Standard library alone.

@@ -1,4 +1,4 @@
-//! Links the proved archive. `WEIRBOWL_LIB` names its folder; `tools/embedding.py` makes it in embedding/out.
+//! Links the proved archive. `WEIRBOWL_LIB` names its folder; `tests/embedding.py` makes it in embedding/out.
 
 use std::path::Path;
 
@@ -9,7 +9,7 @@ fn main() {
     println!("cargo:rerun-if-changed={folder}/libweirbowl.a");
     if !Path::new(&folder).join("libweirbowl.a").exists() {
         println!(
-            "cargo:warning=expected libweirbowl.a in {folder}, got none: tools/embedding.py builds it; \
+            "cargo:warning=expected libweirbowl.a in {folder}, got none: tests/embedding.py builds it; \
              WEIRBOWL_LIB names its folder by an absolute path"
         );
     }

@@ -1,4 +1,4 @@
-# made by tools/command_line.py
+# made by tools/docs/command_line.py
 _cedar_site() {
     local word=${COMP_WORDS[COMP_CWORD]} before=${COMP_WORDS[COMP_CWORD - 1]} options=
     if [ "$COMP_CWORD" = 1 ]; then

@@ -1,4 +1,4 @@
-# made by tools/command_line.py
+# made by tools/docs/command_line.py
 complete -c cedar_site -n __fish_use_subcommand -f -a check -d 'Reports whether each policy of a file is accepted under a schema'
 complete -c cedar_site -n '__fish_seen_subcommand_from check' -l schema -r -F -d 'The schema, as JSON'
 complete -c cedar_site -n '__fish_seen_subcommand_from check' -l explain -d 'Also explains, on standard error, what is rejected'

@@ -220,7 +220,7 @@ def _load() -> dict[str, Any]:
     places = [named] if named else [f"{here}/libweirbowl.so", f"{here}/../../out/libweirbowl.so"]
     path = next((it for it in places if os.path.exists(it)), None)
     if path is None:
-        raise ImportError(f"expected libweirbowl.so at {' or '.join(places)}; tools/embedding.py builds it, WEIRBOWL_SO names it")
+        raise ImportError(f"expected libweirbowl.so at {' or '.join(places)}; tests/embedding.py builds it, WEIRBOWL_SO names it")
     library, functions = ctypes.PyDLL(path), {}
     for name, (result, parameters) in CALLS.items():
         functions[name] = getattr(library, f"weirbowl_{name}")

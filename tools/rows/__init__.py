@@ -1,1 +1,0 @@
-"""The tables of rows/: what answers their rows."""
