@@ -6,7 +6,7 @@
 //!
 //! The explanation of an error says what is wrong, where, and what to do. An error reports a byte of a text: `places`
 //! and `excerpts` show that byte as a line and a column. `table` has the meaning of each error code, an example, and
-//! what to do; `cedar_site explain` prints from it, and tools/check_docs.py compares docs/codes.md with it.
+//! what to do; `cedar_site explain` prints from it, and tools/docs/check_docs.py compares docs/codes.md with it.
 //!
 //! Under a schema the explanation of an entity or a request also names the *part* at fault: a part of its JSON, to
 //! which a *path* of keys and indexes leads. `entity_paths` and `request_paths` find it in a second pass, which parses

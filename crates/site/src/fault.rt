@@ -16,13 +16,13 @@ pub enum SiteFault {
     /// Code 1: an allocation failed, or a count of references would overflow.
     #[error("site 1: out of memory")]
     NoMemory,
-    /// Codes 10 to 19: the id of a policy does not have 1 to 256 bytes (19), or its text is not that of a policy.
+    /// Codes 10 to 19: the id of a policy is not UTF-8 of 1 to 256 bytes (19), or its text is not that of a policy.
     #[error(transparent)]
     Policy(ReadFault),
     /// Codes 40 to 46: the policy does not pass validation under the schema.
     #[error(transparent)]
     Check(TypeFault),
-    /// Codes 30 to 38: the JSON does not describe an entity under the schema.
+    /// Codes 30 to 38: the JSON does not describe an entity under the schema, or that of a deletion no uid (30).
     #[error(transparent)]
     Entity(EntityFault),
     /// Codes 50 to 56: the bytes are not a message of the expected kind for the site's schema.

@@ -45,7 +45,10 @@ pub use leaving::runs_leave_what_they_took;
 pub use outcome::{Put, Taken};
 pub use reply::{Found, Reply};
 pub use site::Site;
-pub use soundness_laws::{parsed_data_conforms, validation_is_sound, what_is_read_is_of_its_type};
+pub use soundness_laws::{
+    parsed_data_conforms, stored_answers_are_sound, validation_is_sound,
+    what_is_read_is_of_its_type,
+};
 pub use step_laws::{equal_updates_leave_equal_stores, inputs_have_one_outcome, runs_are_sound};
 pub use world::{World, simulate};
 

@@ -55,7 +55,7 @@ pub fn validation_is_sound()
 /// gives a boolean, `EntityDoesNotExist` or `ArithBoundsError`, and an impossible policy never gives true. (A policy's
 /// text is parsed under a schema only if the policy passes validation.) So no answer over the store reports an error of
 /// type, of an attribute or of an extension function.
-pub(crate) fn stored_answers_are_sound()
+pub fn stored_answers_are_sound()
     ensures policies { StoredPoliciesAreSound }
     ensures answers { StoredAnswersAreSound }
 {

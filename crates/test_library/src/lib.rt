@@ -1,6 +1,6 @@
-//! Tests of library calls that no test case of `rows` or `test_sites` can express: failed allocations, orders, copies,
-//! hierarchies and stores that change. They are in a crate of their own, since the gate proves a crate with tests
-//! twice.
+//! Tests of library calls that no test case of `test_calls` or `test_sites` can express: failed allocations, orders,
+//! copies, hierarchies and stores that change. They are in a crate of their own, since the gate proves a crate with
+//! tests twice.
 #![tactic(auto)]
 
 #[cfg(test)]

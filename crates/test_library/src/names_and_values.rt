@@ -161,7 +161,7 @@ fn is_below_the_next(rt: &impl Abort, alloc: Global, place: u8) -> Result<(), No
     is_copied(rt, alloc, above(rt, pair))
 }
 
-// In each run of tools/faults/refused_tests.py another allocation fails: then each value is unchanged, and the second
+// In each run of tests/faults/refused_tests.py another allocation fails: then each value is unchanged, and the second
 // try copies it.
 #[test]
 fn values_ascend_and_are_copied_under_refused_memory(rt: HostRuntime) -> Result<(), NoMemory> {

@@ -9,7 +9,7 @@
 //! - `PRINCIPAL: POLICY ..` expects the candidates of a request of this principal on Doc x.
 //!
 //! In the test of failed allocations `/` separates steps: `CHANGE; ROW; ROW ..`, a change and the expectations after
-//! it. Each run of tools/faults/refused_tests.py makes one allocation fail.
+//! it. Each run of tests/faults/refused_tests.py makes one allocation fail.
 use crate::shared::{ended, holds, uid_of};
 use ancestor_closure::{Closed, Hierarchy};
 use plain::{NoMemory, Shared, both};
