@@ -106,7 +106,8 @@ typedef enum weirbowl_code {
     WEIRBOWL_SITE_NOT_A_REQUEST = 63
 } weirbowl_code;
 
-/* The next three read a reply, of which at most `out_length` bytes are in `out`, the memory that its call was given. */
+/* The next three read a reply, of which at most `out_length` bytes are in `out`, the memory that its call was given. They
+ * are C, tested and not proved. */
 
 /* Returns whether the whole body is in `out`: only then may its `length` bytes be read there. */
 static inline bool weirbowl_fits(weirbowl_result result, size_t out_length) { return result.length <= out_length; }
