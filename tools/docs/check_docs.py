@@ -5,7 +5,8 @@
 
 - README.md's picture has the layers of crates.txt. In crates.txt each crate names only crates before it; in the picture a crate's libraries are on its own
   layer or on rows below it.
-- docs/proved.md has, in bold, exactly the crates of crates.txt that are not tests, and each law by its name.
+- docs/proved.md has, in bold, exactly the crates of crates.txt that are not tests, and each law by its name; each name in the
+  first column of a table of laws is a law.
 - docs/definitions.md, docs/surface.md and the numbers of docs/reading.md are what tools/docs/made_docs.py makes of the sources.
 - The promises of systems of sites or the contract of the whole program rest on each of the twelve files of docs/reading.md.
 - Each file of docs/, bench/, tools/, examples/, tests/ and of a crate's src/, specs/ and proofs/ that a document names by its path exists. Under a heading
@@ -107,8 +108,11 @@ def about_crates():
     proved = set(re.findall(r"\*\*`?(\w+)`?\*\*", text))
     yield from (f"docs/proved.md: expected the crate {it}, got nothing" for it in sorted(product - proved))
     yield from (f"docs/proved.md: expected a crate of crates.txt, got {it}" for it in sorted(proved - product))
-    words = set(re.findall(r"\w+", text))
-    yield from (f"docs/proved.md: expected the law {crate}::{name}, got nothing" for crate, name in made_docs.laws() if name not in words)
+    words, laws = set(re.findall(r"\w+", text)), {name: crate for crate, name in made_docs.laws()}
+    yield from (f"docs/proved.md: expected the law {crate}::{name}, got nothing" for name, crate in laws.items() if name not in words)
+    for table in re.findall(r"(?m)^\| law \|.*\n(?:\|.*\n)+", text):
+        named = (it for row in table.split("\n")[2:-1] for it in re.findall(r"`(\w+)`", row.split("|")[1]))
+        yield from (f"docs/proved.md: expected a law, got {it}" for it in named if it not in laws)
 
 
 def about_paths():
