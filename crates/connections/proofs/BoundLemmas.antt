@@ -1,29 +1,29 @@
 -- A table holds a bounded number of bytes.
-use Rattle.std.proofs.Common.{◌≡◌, ◌≤◌, ◌<◌, ◌+◌, ◌*◌, ◌⊎◌, ℕ, suc, List, [], ◌∷◌, Bool, true, false, cond, length, Some, refl, sym, ap, ◌∙◌, subst, inl, inr, length-append, arith}
+use Rattle.std.proofs.Common.{◌≡◌, ◌≤◌, ◌<◌, ◌+◌, ◌*◌, ◌⊎◌, ℕ, suc, List, [], ◌∷◌, Bool, true, false, cond, length, map, Some, refl, sym, ap, ◌∙◌, subst, inl, inr, length-append, arith}
 use Rattle.std.specs.Prelude.{nat_lt, slice_get}
 use Rattle.std.specs.List.{sum_by}
 use Rattle.std.proofs.lemmas.Bool.{cases_lt}
 use Rattle.std.proofs.lemmas.Bool.Decides.{nat_tests}
 use Rattle.std.proofs.lemmas.List.Sums.{sum_by-cons}
 use Rattle.connections.specs.Bounds.{AreAtMost, TablesAreBounded}
-use Rattle.connections.specs.Connections.{AreChanges, Change, ChangesAt, Connection, Entry, HasRoom, IsChange, fresh, held, is_long, longs, unsent}
+use Rattle.connections.specs.Connections.{AreChanges, Change, ChangesAt, Connection, Entry, HasRoom, IsChange, fresh, held, is_long, longs, unsent, unsent_of}
 use Rattle.connections.specs.Connections.{committed, committed_at, uncommitted, uncommitted_at}
 use Rattle.connections.specs.Connections.{At, Committed, Uncommitted}
-use Rattle.connections.specs.Connections.{Opened, Reserved, Came, Ended, Lacked, Answered, Logged, CutOff, Took, Gone}
+use Rattle.connections.specs.Connections.{Opened, Reserved, Came, Ended, Asked, Lacked, Answered, Logged, CutOff, Took, Gone}
 use Rattle.connections.specs.Rounds.{reply_in}
 use Rattle.connections.specs.Stories.{AreFree}
 use Rattle.connections.specs.declared.TheConstants.{MAX_INPUT, MAX_LONG, MAX_READ, MAX_SHORT, MAX_UNSENT}
 use Rattle.connections.specs.declared.slot.Stage.{Stage}
 use Rattle.connections.specs.declared.slot.Stage.TheVariants as Stages
 use Rattle.connections.proofs.StoryLemmas.{stories_fit}
-use Rattle.connections.proofs.TableLemmas.{sum_map, sum_set}
+use Rattle.connections.proofs.TableLemmas.{sum_map_le, sum_set}
 
 -- 1 for a connection that holds many bytes
 abbrev one : Connection → ℕ
 one c = cond (is_long c) 1 0
 
 abbrev size : Connection → ℕ
-size c = length c.output
+size c = unsent_of c
 
 lt_true : {m n : ℕ} → m < n → nat_lt m n ≡ true
 lt_true h = grind (arith, nat_tests)
@@ -71,6 +71,7 @@ few Reserved a b table h room less = subst (λ (c : Connection). longs table + o
 ])
 few (Came bytes now) a b table h room less = omega (arith, one_mono a b (came_held a b bytes now h))
 few Ended a b table h room less = omega (arith, one_mono a b (omega (arith, ap (λ (c : Connection). held c) h.1)))
+few (Asked now) a b table h room less = omega (arith, one_mono a b (omega (arith, ap (λ (c : Connection). held c) h.1)))
 few (Lacked needed) a b table h room less = omega (arith, one_mono a b (omega (arith, ap (λ (c : Connection). held c) h.2)))
 few (Answered request closes reply line) a b table h room less = omega (arith, one_mono a b (answered_held a b request closes reply line h))
 few (Logged line) a b table h room less = omega (arith, one_mono a b (omega (arith, ap (λ (c : Connection). held c) h.2)))
@@ -85,13 +86,14 @@ sent (Opened now) a b table most h room small less = omega (arith, ap (λ (c : C
 sent Reserved a b table most h room small less = omega (arith, ap (λ (c : Connection). size c) h.1)
 sent (Came bytes now) a b table most h room small less = omega (arith, ap (λ (c : Connection). size c) h.3)
 sent Ended a b table most h room small less = omega (arith, ap (λ (c : Connection). size c) h.1)
+sent (Asked now) a b table most h room small less = omega (arith, ap (λ (c : Connection). size c) h.1)
 sent (Lacked needed) a b table most h room small less = omega (arith, ap (λ (c : Connection). size c) h.2)
 sent (Answered request closes reply line) a b table most h room small less =
     omega (arith, room, small, ap (λ (c : Connection). size c) h.3)
 sent (Logged line) a b table most h room small less = omega (arith, ap (λ (c : Connection). size c) h.2)
 sent (CutOff line) a b table most h room small less = omega (arith, ap (λ (c : Connection). size c) h.2)
 sent (Took bytes now) a b table most h room small less =
-    omega (arith, ap (λ (t : List ℕ). length t) h.3, length-append bytes b.output)
+    omega (arith, ap (λ (t : List ℕ). length t) h.3, length-append bytes b.output, ap (λ (c : Connection). size c) h.4)
 sent (Gone why) a b table most h room small less = omega (arith, ap (λ (c : Connection). size c) h.2)
 
 record IsWithin (most : ℕ) (table : List Connection) : Type 0 where
@@ -110,37 +112,33 @@ change_within most at change old new move small was =
       output = omega (arith, bytes, sent change move.before move.after old most move.changed move.room small was.output);
     }
 
-one_committed : (s : Stage) (c : Connection) → one (committed_at s c) ≡ one c
-one_committed Stages.Made c = refl
-one_committed Stages.Committed c = refl
-one_committed Stages.Logged c = refl
-one_committed Stages.Uncommitted c = refl
-one_committed Stages.Unlogged c = refl
+-- a commit, also one that fails, makes no connection hold more bytes
+abbrev HoldsNoMore : Connection → Connection → Type 0
+HoldsNoMore a b = (one b ≤ one a) × (size b ≤ size a)
 
-size_committed : (s : Stage) (c : Connection) → size (committed_at s c) ≡ size c
-size_committed Stages.Made c = refl
-size_committed Stages.Committed c = refl
-size_committed Stages.Logged c = refl
-size_committed Stages.Uncommitted c = refl
-size_committed Stages.Unlogged c = refl
+less_committed : (s : Stage) (c : Connection) → HoldsNoMore c (committed_at s c)
+less_committed Stages.Made c = (omega arith, omega arith)
+less_committed Stages.Committed c = (omega arith, omega arith)
+less_committed Stages.Logged c = (omega arith, omega arith)
+less_committed Stages.Uncommitted c = (omega arith, omega arith)
+less_committed Stages.Unlogged c = (omega arith, omega arith)
 
-one_uncommitted : (s : Stage) (c : Connection) → one (uncommitted_at s c) ≡ one c
-one_uncommitted Stages.Made c = refl
-one_uncommitted Stages.Committed c = refl
-one_uncommitted Stages.Logged c = refl
-one_uncommitted Stages.Uncommitted c = refl
-one_uncommitted Stages.Unlogged c = refl
+less_uncommitted : (s : Stage) (c : Connection) → HoldsNoMore c (uncommitted_at s c)
+less_uncommitted Stages.Made c = (omega arith, omega arith)
+less_uncommitted Stages.Committed c = (omega arith, omega arith)
+less_uncommitted Stages.Logged c = (omega arith, omega arith)
+less_uncommitted Stages.Uncommitted c = (omega arith, omega arith)
+less_uncommitted Stages.Unlogged c = (omega arith, omega arith)
 
-size_uncommitted : (s : Stage) (c : Connection) → size (uncommitted_at s c) ≡ size c
-size_uncommitted Stages.Made c = refl
-size_uncommitted Stages.Committed c = refl
-size_uncommitted Stages.Logged c = refl
-size_uncommitted Stages.Uncommitted c = refl
-size_uncommitted Stages.Unlogged c = refl
-
-same_within : (most : ℕ) (old new : List Connection) → longs new ≡ longs old → unsent new ≡ unsent old → IsWithin most old → IsWithin most new
-same_within most old new many bytes was =
-    record { few = omega (arith, many, was.few); output = omega (arith, bytes, was.output) }
+all_within : (most : ℕ) (f : Connection → Connection) (old new : List Connection) → new ≡ map f old
+    → ((c : Connection) → HoldsNoMore c (f c)) → IsWithin most old → IsWithin most new
+all_within most f old new is less was =
+    let many : longs (map f old) ≤ longs old = sum_map_le (λ c. one c) f old (λ c. (less c).0) in
+    let bytes : unsent (map f old) ≤ unsent old = sum_map_le (λ c. size c) f old (λ c. (less c).1) in
+    record {
+      few = omega (arith, ap (λ (t : List Connection). longs t) is, many, was.few);
+      output = omega (arith, ap (λ (t : List Connection). unsent t) is, bytes, was.output);
+    }
 
 all : (entries : List Entry) (most : ℕ) (old new : List Connection) → AreChanges entries old new → AreAtMost most entries
     → IsWithin most old → IsWithin most new
@@ -148,13 +146,9 @@ all [] most old new h small was = subst (IsWithin most) (sym h) was
 all (At at change ∷ entries) most old new h small was =
     all entries most h.0 new h.2 small.1 (change_within most at change old h.0 h.1 small.0 was)
 all (Committed ∷ entries) most old new h small was =
-    all entries most h.0 new h.2 small (same_within most old h.0
-    (ap (λ (t : List Connection). longs t) h.1 ∙ sum_map (λ c. one c) committed old (λ c. one_committed c.stage c))
-    (ap (λ (t : List Connection). unsent t) h.1 ∙ sum_map (λ c. size c) committed old (λ c. size_committed c.stage c)) was)
+    all entries most h.0 new h.2 small (all_within most committed old h.0 h.1 (λ c. less_committed c.stage c) was)
 all (Uncommitted ∷ entries) most old new h small was =
-    all entries most h.0 new h.2 small (same_within most old h.0
-    (ap (λ (t : List Connection). longs t) h.1 ∙ sum_map (λ c. one c) uncommitted old (λ c. one_uncommitted c.stage c))
-    (ap (λ (t : List Connection). unsent t) h.1 ∙ sum_map (λ c. size c) uncommitted old (λ c. size_uncommitted c.stage c)) was)
+    all entries most h.0 new h.2 small (all_within most uncommitted old h.0 h.1 (λ c. less_uncommitted c.stage c) was)
 
 none_free : (f : Connection → ℕ) → f (fresh false 0) ≡ 0 → (table : List Connection) → AreFree table → sum_by f table ≡ 0
 none_free f zero_at [] free = refl

@@ -4,7 +4,7 @@ use Rattle.std.specs.Prelude.{if◌then◌else◌, ◌==◌}
 use Rattle.std.proofs.lemmas.List.{length-set, length-map}
 use Rattle.connections.specs.Connections.{AreChanges, Change, Changes, Connection, Entry, committed, uncommitted}
 use Rattle.connections.specs.Connections.{At, Committed, Uncommitted}
-use Rattle.connections.specs.Connections.{Opened, Reserved, Came, Ended, Lacked, Answered, Logged, CutOff, Took, Gone}
+use Rattle.connections.specs.Connections.{Opened, Reserved, Came, Ended, Asked, Lacked, Answered, Logged, CutOff, Took, Gone}
 use Rattle.connections.specs.Rounds.{AreAll, IsALine, IsATurn, answers_at, answers_in, replied, reply_in}
 use Rattle.connections.specs.Steps.{AreLogged, Answering, IsChain, Leads, Line, LineRelation, Notes, Steps}
 
@@ -60,6 +60,7 @@ line_answers (Opened now) h = absurd h
 line_answers Reserved h = absurd h
 line_answers (Came bytes now) h = absurd h
 line_answers Ended h = absurd h
+line_answers (Asked now) h = absurd h
 line_answers (Lacked needed) h = absurd h
 line_answers (Answered request closes reply line) h = absurd h
 line_answers (Logged line) h = refl
@@ -89,6 +90,7 @@ line_replies (Opened now) h = absurd h
 line_replies Reserved h = absurd h
 line_replies (Came bytes now) h = absurd h
 line_replies Ended h = absurd h
+line_replies (Asked now) h = absurd h
 line_replies (Lacked needed) h = absurd h
 line_replies (Answered request closes reply line) h = absurd h
 line_replies (Logged line) h = refl
@@ -109,6 +111,7 @@ module _ {S : Type 0} (answers : Answering S) (lines : LineRelation) (commits co
   line_step s at Reserved h = absurd h
   line_step s at (Came bytes now) h = absurd h
   line_step s at Ended h = absurd h
+  line_step s at (Asked now) h = absurd h
   line_step s at (Lacked needed) h = absurd h
   line_step s at (Answered request closes reply line) h = absurd h
   line_step s at (Logged line) h = refl
@@ -130,6 +133,7 @@ module _ {L : Type 0} (writes cuts : L → List ℕ → L → Type 0) where
   turn_note l at Reserved h = absurd h
   turn_note l at (Came bytes now) h = absurd h
   turn_note l at Ended h = absurd h
+  turn_note l at (Asked now) h = absurd h
   turn_note l at (Lacked needed) h = refl
   turn_note l at (Answered request closes reply line) h = refl
   turn_note l at (Logged line) h = absurd h

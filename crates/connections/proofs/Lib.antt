@@ -1,14 +1,15 @@
 mod StoryLemmas
 mod CutLemmas
-mod TableLemmas
-mod JoinLemmas
+pub mod TableLemmas
+pub mod JoinLemmas
 mod WaitingLemmas
 mod RoundLemmas
 mod LogLemmas
 mod WholeRounds
 mod ReadyLemmas
-mod HandleLemmas
+pub mod HandleLemmas
 mod RunLemmas
 mod QuietLemmas
 mod BoundLemmas
-mod LimitLemmas
+pub mod LimitLemmas
+mod LossLemmas

@@ -4,24 +4,45 @@ use Rattle.std.specs.Prelude.{Option, if◌then◌else◌, nat_lt, slice_get, sl
 use Rattle.std.proofs.lemmas.Bool.{cases_lt}
 use Rattle.std.proofs.lemmas.Bool.Decides.{nat_tests}
 use Rattle.std.proofs.lemmas.Option.{slice_get_within}
-use Rattle.connections.specs.Connections.{At, AreChanges, Connection, Entry, Gone, fresh}
-use Rattle.connections.specs.Limits.{AreClosed, HasClaim, IsEarliest, IsFirstAfter, IsOneOver, claimed, reason_at}
-use Rattle.connections.specs.Made.{IsMade, MayClose}
+use Rattle.connections.specs.Connections.{At, AreChanges, ChangesAt, Connection, Entry, Gone, IsCalledFor, fresh, unsent, unsent_of}
+use Rattle.connections.specs.Limits.{AreClosed, HasClaim, IsDue, IsEarliest, IsFirstAfter, IsOneOver, IsOverLimit, claimed}
+use Rattle.connections.specs.Made.{IsMade, MayClose, MayEnd}
 use Rattle.connections.specs.Rounds.{AreAll}
 use Rattle.connections.specs.declared.TheConstants.{MAX_WAIT}
 use Rattle.connections.specs.declared.slot.Claim.{Claim}
 use Rattle.connections.specs.declared.slot.Limit.{Limit}
 use Rattle.connections.specs.declared.slot.Reason.{Reason}
+use Rattle.connections.specs.declared.slot.Reason.TheVariants as Reasons
+use Rattle.connections.specs.declared.slot.Stage.TheVariants as Stages
 use Rattle.connections.specs.inner.Earliest.{Claimant, first_claim}
-use Rattle.connections.specs.inner.Times.{first_of_both}
+use Rattle.connections.specs.Times.{first_of_both}
 use Rattle.connections.proofs.JoinLemmas.{all_join, changes_join}
-use Rattle.connections.proofs.TableLemmas.{eq_or_not, get_set_other, get_set_same, some_is}
+use Rattle.connections.proofs.TableLemmas.{eq_or_not, get_set_other, get_set_same, some_is, sum_set}
+
+-- what a table calls for after a connection is closed, it called for before
+called_before : (why : Reason) (at : ℕ) (now next : List Connection) → ChangesAt at (Gone why) now next → IsCalledFor why next
+    → IsCalledFor why now
+called_before Reasons.Over at now next move calls = tt
+called_before Reasons.Broken at now next move calls = tt
+called_before Reasons.Unlogged at now next move calls = tt
+called_before Reasons.Uncommitted at now next move calls = tt
+called_before (Reasons.Expired idle) at now next move calls = tt
+called_before Reasons.MadeRoom at now next move calls = tt
+called_before Reasons.Crowded at now next move calls =
+    omega (
+      arith,
+      calls,
+      ap (λ (t : List Connection). unsent t) move.is,
+      sum_set (λ c. unsent_of c) now at move.before move.after move.found,
+      ap (λ (c : Connection). unsent_of c) move.changed.2,
+    )
 
 -- the connections below `at` are closed that may be
 module _ (why : Reason) (table : List Connection) where
   abbrev IsClosedOrKept : ℕ → Connection → List Connection → Type 0
   IsClosedOrKept k c now =
-      (MayClose why c × (slice_get now k ≡ Some (fresh false 0))) ⊎ ((MayClose why c → ⊥) × (slice_get now k ≡ Some c))
+      (MayClose why c × (slice_get now k ≡ Some (fresh false 0)))
+      ⊎ ((MayClose why c → IsCalledFor why now → ⊥) × (slice_get now k ≡ Some c))
 
   pub record SoFar (at : ℕ) (now : List Connection) : Type 0 where
     pub entries : List Entry
@@ -39,7 +60,7 @@ module _ (why : Reason) (table : List Connection) where
     same = λ k h. refl;
   }
 
-  pub closed : (at : ℕ) (done : Bool) (now next : List Connection) → SoFar at now → IsMade done at (Gone why) (MayClose why) now next
+  pub closed : (at : ℕ) (done : Bool) (now next : List Connection) → SoFar at now → IsMade done at (Gone why) (MayEnd why now) now next
       → SoFar (at + 1) next
   closed at true now next so move =
       let e : Entry = At at (Gone why) in
@@ -59,7 +80,7 @@ module _ (why : Reason) (table : List Connection) where
               )
           | inr differ ↦ elim (so.before k c (omega arith) found) [
             | inl gone ↦ inl (gone.0, there k differ ∙ gone.1)
-            | inr kept ↦ inr (kept.0, there k differ ∙ kept.1)
+            | inr kept ↦ inr (λ may calls. kept.0 may (called_before why at now next move calls), there k differ ∙ kept.1)
           ]
         ];
         same = λ k h. there k (λ e. omega arith) ∙ so.same k (omega arith);
@@ -72,7 +93,7 @@ module _ (why : Reason) (table : List Connection) where
         before = λ k c less found. elim (eq_or_not at k) [
           | inl here ↦
               let is : slice_get now k ≡ Some c = so.same k (omega arith) ∙ found in
-              inr (λ may. h.1 c (ap (slice_get now) here ∙ is) may, is)
+              inr (λ may calls. h.1 c (ap (slice_get now) here ∙ is) (may, calls), is)
           | inr differ ↦ so.before k c (omega arith) found
         ];
         same = λ k h. so.same k (omega arith);
@@ -121,23 +142,31 @@ first_over now start millis = (
   elim (cases_lt MAX_WAIT (start + millis - now)) [ inl more ↦ inl (omega arith) | inr less ↦ inr (omega arith) ],
 )
 
+-- a connection that is awaited is due when it is over the limit
+pub due_of_over : (now : ℕ) (limit : Limit) (c : Connection) (wait : Option ℕ) → c.is_open ≡ true
+    → (c.stage ≡ Stages.Logged) × (c.asked ≡ true) → IsFirstAfter now (λ t. IsOverLimit limit t c) wait
+    → IsFirstAfter now (λ t. IsDue limit t c) wait
+due_of_over now limit c wait open_now awaited h =
+    first_of_same now (λ t. IsOverLimit limit t c) (λ t. IsDue limit t c) wait
+    (λ t p. (open_now, awaited.0, awaited.1, p)) (λ t q. q.3) h
+
 -- a connection below `i` is over the limit
 pub record IsOneBelow (limit : Limit) (table : List Connection) (i : ℕ) (t : ℕ) : Type 0 where
   pub at : ℕ
   pub connection : Connection
   pub less : at < i
   pub found : slice_get table at ≡ Some connection
-  pub over : MayClose (reason_at limit t) connection
+  pub over : IsDue limit t connection
 
 pub none_below : (limit : Limit) (table : List Connection) (now : ℕ) → IsFirstAfter now (IsOneBelow limit table 0) None
 none_below limit table now = λ t one. let less = one.less in omega arith
 
 pub one_more : (limit : Limit) (table : List Connection) (now i : ℕ) (c : Connection) (wait here : Option ℕ)
     → slice_get table i ≡ Some c → IsFirstAfter now (IsOneBelow limit table i) wait
-    → IsFirstAfter now (λ t. MayClose (reason_at limit t) c) here
+    → IsFirstAfter now (λ t. IsDue limit t c) here
     → IsFirstAfter now (IsOneBelow limit table (i + 1)) (first_of_both wait here)
 one_more limit table now i c wait here found h g =
-    first_of_same now (λ t. IsOneBelow limit table i t ⊎ MayClose (reason_at limit t) c) (IsOneBelow limit table (i + 1)) (first_of_both wait here)
+    first_of_same now (λ t. IsOneBelow limit table i t ⊎ IsDue limit t c) (IsOneBelow limit table (i + 1)) (first_of_both wait here)
     (λ t either. elim either [
       | inl one ↦
           let less = one.less in
@@ -145,12 +174,12 @@ one_more limit table now i c wait here found h g =
       | inr over ↦ record { at = i; connection = c; less = omega arith; found = found; over = over }
     ])
     (λ t one. elim (eq_or_not one.at i) [
-      | inl same ↦ inr (subst (MayClose (reason_at limit t)) (some_is (sym one.found ∙ ap (slice_get table) same ∙ found)) one.over)
+      | inl same ↦ inr (subst (IsDue limit t) (some_is (sym one.found ∙ ap (slice_get table) same ∙ found)) one.over)
       | inr differ ↦
           let less = one.less in
           inl (record { at = one.at; connection = one.connection; less = omega arith; found = one.found; over = one.over })
     ])
-    (first_of_either now (IsOneBelow limit table i) (λ t. MayClose (reason_at limit t) c) wait here h g)
+    (first_of_either now (IsOneBelow limit table i) (λ t. IsDue limit t c) wait here h g)
 
 pub all_below : (limit : Limit) (table : List Connection) (now i : ℕ) (wait : Option ℕ) → length table ≤ i
     → IsFirstAfter now (IsOneBelow limit table i) wait → IsFirstAfter now (IsOneOver limit table) wait
@@ -162,11 +191,11 @@ all_below limit table now i wait whole h =
     record { at = one.at; connection = one.connection; less = omega arith; found = one.found; over = one.over }) h
 
 -- the claimant that comes first of the slots below `at`
-abbrev pub IsBest : Claim → ℕ → List Connection → ℕ → Option Claimant → Type 0
-IsBest claim now table at None = (k : ℕ) (c : Connection) → k < at → slice_get table k ≡ Some c → HasClaim claim now c → ⊥
-IsBest claim now table at (Some best) =
-    (best.0 < at) × ((c : Connection) × (slice_get table best.0 ≡ Some c) × HasClaim claim now c × (best.1 ≡ claimed claim c))
-    × ((k : ℕ) (d : Connection) → k < at → slice_get table k ≡ Some d → HasClaim claim now d
+abbrev pub IsBest : Claim → List Connection → ℕ → Option Claimant → Type 0
+IsBest claim table at None = (k : ℕ) (c : Connection) → k < at → slice_get table k ≡ Some c → HasClaim claim c → ⊥
+IsBest claim table at (Some best) =
+    (best.0 < at) × ((c : Connection) × (slice_get table best.0 ≡ Some c) × HasClaim claim c × (best.1 ≡ claimed claim c))
+    × ((k : ℕ) (d : Connection) → k < at → slice_get table k ≡ Some d → HasClaim claim d
     → (best.1 < claimed claim d) ⊎ ((best.1 ≡ claimed claim d) × (best.0 ≤ k)))
 
 lt_true : {m n : ℕ} → m < n → nat_lt m n ≡ true
@@ -181,30 +210,30 @@ chosen b v x y h = ap (λ (t : Bool). if t then x else y) h
 not_later : (m n i k : ℕ) → m ≤ n → i ≤ k → (m < n) ⊎ ((m ≡ n) × (i ≤ k))
 not_later m n i k less below = elim (cases_lt m n) [ inl h ↦ inl h | inr h ↦ inr (omega arith, below) ]
 
-abbrev pub HasClaimSince : Claim → ℕ → Connection → Option ℕ → Type 0
-HasClaimSince claim now c None = HasClaim claim now c → ⊥
-HasClaimSince claim now c (Some time) = HasClaim claim now c × (time ≡ claimed claim c)
+abbrev pub HasClaimSince : Claim → Connection → Option ℕ → Type 0
+HasClaimSince claim c None = HasClaim claim c → ⊥
+HasClaimSince claim c (Some time) = HasClaim claim c × (time ≡ claimed claim c)
 
-pub none_best : (claim : Claim) (now : ℕ) (table : List Connection) → IsBest claim now table 0 None
-none_best claim now table = λ k c less found has. absurd (omega arith)
+pub none_best : (claim : Claim) (table : List Connection) → IsBest claim table 0 None
+none_best claim table = λ k c less found has. absurd (omega arith)
 
 -- one more slot
-pub best_more : (claim : Claim) (now : ℕ) (table : List Connection) (at : ℕ) (c : Connection) (best : Option Claimant) (time : Option ℕ)
-    → slice_get table at ≡ Some c → HasClaimSince claim now c time → IsBest claim now table at best
-    → IsBest claim now table (at + 1) (first_claim best at time)
-best_more claim now table at c None None found h was = λ k d less f has. elim (eq_or_not k at) [
-  | inl same ↦ h (subst (HasClaim claim now) (some_is (sym f ∙ ap (slice_get table) same ∙ found)) has)
+pub best_more : (claim : Claim) (table : List Connection) (at : ℕ) (c : Connection) (best : Option Claimant) (time : Option ℕ)
+    → slice_get table at ≡ Some c → HasClaimSince claim c time → IsBest claim table at best
+    → IsBest claim table (at + 1) (first_claim best at time)
+best_more claim table at c None None found h was = λ k d less f has. elim (eq_or_not k at) [
+  | inl same ↦ h (subst (HasClaim claim) (some_is (sym f ∙ ap (slice_get table) same ∙ found)) has)
   | inr differ ↦ was k d (omega arith) f has
 ]
-best_more claim now table at c (Some best) None found h was = (
+best_more claim table at c (Some best) None found h was = (
   omega (arith, was.0),
   was.1,
   λ k d less f has. elim (eq_or_not k at) [
-    | inl same ↦ absurd (h (subst (HasClaim claim now) (some_is (sym f ∙ ap (slice_get table) same ∙ found)) has))
+    | inl same ↦ absurd (h (subst (HasClaim claim) (some_is (sym f ∙ ap (slice_get table) same ∙ found)) has))
     | inr differ ↦ was.2 k d (omega arith) f has
   ],
 )
-best_more claim now table at c None (Some time) found h was = (
+best_more claim table at c None (Some time) found h was = (
   omega arith,
   (c, found, h.0, h.1),
   λ k d less f has. elim (eq_or_not k at) [
@@ -212,8 +241,8 @@ best_more claim now table at c None (Some time) found h was = (
     | inr differ ↦ absurd (was k d (omega arith) f has)
   ],
 )
-best_more claim now table at c (Some best) (Some time) found h was = elim (cases_lt time best.1) [
-  | inl less ↦ subst (IsBest claim now table (at + 1)) (sym (chosen (nat_lt time best.1) true (Some (at, time)) (Some best) (lt_true less))) (
+best_more claim table at c (Some best) (Some time) found h was = elim (cases_lt time best.1) [
+  | inl less ↦ subst (IsBest claim table (at + 1)) (sym (chosen (nat_lt time best.1) true (Some (at, time)) (Some best) (lt_true less))) (
     omega arith,
     (c, found, h.0, h.1),
     λ k d below f has. elim (eq_or_not k at) [
@@ -221,7 +250,7 @@ best_more claim now table at c (Some best) (Some time) found h was = elim (cases
       | inr differ ↦ inl (elim (was.2 k d (omega arith) f has) [ inl more ↦ omega (arith, more, less) | inr equal ↦ omega (arith, equal.0, less) ])
     ],
   )
-  | inr more ↦ subst (IsBest claim now table (at + 1)) (sym (chosen (nat_lt time best.1) false (Some (at, time)) (Some best) (lt_false more))) (
+  | inr more ↦ subst (IsBest claim table (at + 1)) (sym (chosen (nat_lt time best.1) false (Some (at, time)) (Some best) (lt_false more))) (
     omega (arith, was.0),
     was.1,
     λ k d below f has. elim (eq_or_not k at) [
@@ -233,9 +262,9 @@ best_more claim now table at c (Some best) (Some time) found h was = elim (cases
   )
 ]
 
-pub best_is_earliest : (claim : Claim) (now : ℕ) (table : List Connection) (at : ℕ) (best : Claimant) → length table ≤ at
-    → IsBest claim now table at (Some best) → IsEarliest claim now table (Some best.0)
-best_is_earliest claim now table at best whole h = (
+pub best_is_earliest : (claim : Claim) (table : List Connection) (at : ℕ) (best : Claimant) → length table ≤ at
+    → IsBest claim table at (Some best) → IsEarliest claim table (Some best.0)
+best_is_earliest claim table at best whole h = (
   h.1.0,
   h.1.1,
   h.1.2,
@@ -244,7 +273,7 @@ best_is_earliest claim now table at best whole h = (
       subst (λ (t : ℕ). (t < claimed claim d) ⊎ ((t ≡ claimed claim d) × (best.0 ≤ k))) h.1.3 (h.2 k d (omega arith) found has),
 )
 
-pub none_is_earliest : (claim : Claim) (now : ℕ) (table : List Connection) (at : ℕ) → length table ≤ at
-    → IsBest claim now table at None → IsEarliest claim now table None
-none_is_earliest claim now table at whole h = λ k c found has.
+pub none_is_earliest : (claim : Claim) (table : List Connection) (at : ℕ) → length table ≤ at
+    → IsBest claim table at None → IsEarliest claim table None
+none_is_earliest claim table at whole h = λ k c found has.
     let less = slice_get_within table k c found in h k c (omega arith) found has

@@ -4,7 +4,7 @@ use Rattle.std.specs.Prelude.{if◌then◌else◌}
 use Rattle.std.specs.List.{flat_map}
 use Rattle.connections.specs.Connections.{Change, Entry}
 use Rattle.connections.specs.Connections.{At, Committed, Uncommitted}
-use Rattle.connections.specs.Connections.{Opened, Reserved, Came, Ended, Lacked, Answered, Logged, CutOff, Took, Gone}
+use Rattle.connections.specs.Connections.{Opened, Reserved, Came, Ended, Asked, Lacked, Answered, Logged, CutOff, Took, Gone}
 use Rattle.connections.specs.Framing.{AreRequests}
 use Rattle.connections.specs.Quiet.{QuietAreAnswered}
 use Rattle.connections.specs.Steps.{Answering, IsChain, LineRelation, Steps, StepsAt}
@@ -44,6 +44,7 @@ module _ {S : Type 0} (answers : Answering S) (lines : LineRelation) (commits co
   step st Reserved old new h s = h
   step st (Came bytes now) old new h s = h
   step st Ended old new h s = h
+  step st (Asked now) old new h s = h
   step st (Lacked needed) old new h s = h
   step st (Answered request closes reply line) old new h s =
       one_more st.turns (record { request = request; closes = closes; reply = reply }) h (requests old new request closes reply s.0)
@@ -78,5 +79,5 @@ module _ {S : Type 0} (answers : Answering S) (lines : LineRelation) (commits co
           is = fits.came ∙ ap (λ (t : List ℕ). t ++ c.input) (sym (joined_requests st.turns));
         };
         took = sym (fits.took ∙ ap (λ (t : List ℕ). st.took ++ t) may.drained ∙ append-nil st.took);
-        goes_on = λ goes_on. record { answers = may; goes_on = goes_on; small = short c.input unfinished };
+        goes_on = λ goes_on lacks. record { answers = may; goes_on = goes_on; lacks = lacks; small = short c.input unfinished };
       }

@@ -3,7 +3,7 @@ use Rattle.std.proofs.Common.{◌≡◌, ◌<◌, ℕ, List, [], ◌∷◌, ◌+
 use Rattle.std.specs.Prelude.{slice_get, slice_set}
 use Rattle.connections.specs.Connections.{AreChanges, Change, ChangesAt, Connection, Entry, IsChange, committed, committed_at, uncommitted, uncommitted_at}
 use Rattle.connections.specs.Connections.{At, Committed, Uncommitted}
-use Rattle.connections.specs.Connections.{Opened, Reserved, Came, Ended, Lacked, Answered, Logged, CutOff, Took, Gone}
+use Rattle.connections.specs.Connections.{Opened, Reserved, Came, Ended, Asked, Lacked, Answered, Logged, CutOff, Took, Gone}
 use Rattle.connections.specs.Framing.{StaysUnfinished}
 use Rattle.connections.specs.Ready.{TablesAreReady}
 use Rattle.connections.specs.Rounds.{AreAll, AreNeeded, AreSettled, IsALine, IsATurn, IsSettledAt}
@@ -18,6 +18,7 @@ keeps_settled (Opened now) a b no_turn h s = subst (λ (c : Connection). IsSettl
 keeps_settled Reserved a b no_turn h s = subst (λ (c : Connection). IsSettledAt c.stage) (sym h.1) s
 keeps_settled (Came bytes now) a b no_turn h s = subst (λ (c : Connection). IsSettledAt c.stage) (sym h.3) s
 keeps_settled Ended a b no_turn h s = subst (λ (c : Connection). IsSettledAt c.stage) (sym h.1) s
+keeps_settled (Asked now) a b no_turn h s = subst (λ (c : Connection). IsSettledAt c.stage) (sym h.1) s
 keeps_settled (Lacked needed) a b no_turn h s = absurd (no_turn tt)
 keeps_settled (Answered request closes reply line) a b no_turn h s = absurd (no_turn tt)
 keeps_settled (Logged line) a b no_turn h s = subst (λ (c : Connection). IsSettledAt c.stage) (sym h.2) tt
@@ -57,6 +58,7 @@ module _ (is_unfinished : List ℕ → Type 0) where
   keeps_need Reserved a b no_turn h s = subst Needs (sym h.1) s
   keeps_need (Came bytes now) a b no_turn h s = subst Needs (sym h.3) (needs_with a.input bytes a.needed s)
   keeps_need Ended a b no_turn h s = subst Needs (sym h.1) s
+  keeps_need (Asked now) a b no_turn h s = subst Needs (sym h.1) s
   keeps_need (Lacked needed) a b no_turn h s = absurd (no_turn tt)
   keeps_need (Answered request closes reply line) a b no_turn h s = absurd (no_turn tt)
   keeps_need (Logged line) a b no_turn h s = subst Needs (sym h.2) s
@@ -116,6 +118,7 @@ module _ (is_unfinished : List ℕ → Type 0) where
   line_is_no_turn Reserved h g = h
   line_is_no_turn (Came bytes now) h g = h
   line_is_no_turn Ended h g = h
+  line_is_no_turn (Asked now) h g = h
   line_is_no_turn (Lacked needed) h g = h
   line_is_no_turn (Answered request closes reply line) h g = h
   line_is_no_turn (Logged line) h g = g

@@ -2,9 +2,9 @@
 use Rattle.std.proofs.Common.{◌≡◌, ◌≢◌, ◌≤◌, ◌<◌, ◌+◌, ◌==◌, ◌⊎◌, ℕ, List, [], ◌∷◌, ◌++◌, length, Bool, true, false, Some, refl, sym, ap, ◌∙◌, subst, inl, inr, arith}
 use Rattle.std.specs.Prelude.{slice_get, slice_set, if◌then◌else◌, IsTrue, IsFalse}
 use Rattle.std.proofs.lemmas.Option.{slice_get_within}
-use Rattle.connections.specs.Connections.{Answered, AreChanges, At, Change, ChangesAt, Connection, Entry, Lacked, MayAnswer, unsent}
+use Rattle.connections.specs.Connections.{Answered, AreChanges, At, Change, ChangesAt, Connection, Entry, Lacked, MayAnswer, unsent, unsent_of}
 use Rattle.connections.specs.Framing.{StaysUnfinished}
-use Rattle.connections.specs.Rounds.{AreAll, AreNeeded, AreReady, AreSettled, HasItsTurn, IsALack, IsATurn, IsQuiet, IsRound, IsSettledAt, answers_at, replied}
+use Rattle.connections.specs.Rounds.{AreAll, AreLacking, AreNeeded, AreReady, AreSettled, HasItsTurn, IsALack, IsATurn, IsQuiet, IsRound, IsSettledAt, answers_at, replied}
 use Rattle.connections.specs.Steps.{AreLogged, Answering, IsChain, LineRelation, Steps, StepsAt}
 use Rattle.connections.specs.declared.TheConstants.{MAX_UNSENT}
 use Rattle.connections.specs.declared.slot.Stage.{Stage}
@@ -35,30 +35,27 @@ there_after at k change now next move differ =
 
 pub lacked_unsent : (at needed : ℕ) (now next : List Connection) → ChangesAt at (Lacked needed) now next → unsent next ≡ unsent now
 lacked_unsent at needed now next change =
-    let f : Connection → ℕ = λ c. length c.output in
     omega (
       arith,
       ap (λ (t : List Connection). unsent t) change.is,
-      sum_set f now at change.before change.after change.found,
-      ap (λ (c : Connection). length c.output) change.changed.2,
+      sum_set (λ c. unsent_of c) now at change.before change.after change.found,
+      ap (λ (c : Connection). unsent_of c) change.changed.2,
     )
 
 pub answered_unsent : (at : ℕ) (request : List ℕ) (closes : Bool) (reply line : List ℕ) (now next : List Connection)
-    → ChangesAt at (Answered request closes reply line) now next → unsent next ≡ unsent now + length reply
+    → ChangesAt at (Answered request closes reply line) now next → unsent next ≤ unsent now + length reply + length line
 answered_unsent at request closes reply line now next change =
-    let f : Connection → ℕ = λ c. length c.output in
     omega (
       arith,
       ap (λ (t : List Connection). unsent t) change.is,
-      sum_set f now at change.before change.after change.found,
-      ap (λ (c : Connection). length c.output) change.changed.3,
-      ap (λ (t : List ℕ). length t) change.changed.0.drained,
+      sum_set (λ c. unsent_of c) now at change.before change.after change.found,
+      ap (λ (c : Connection). unsent_of c) change.changed.3,
     )
 
 pub idle_unsent : (is_unfinished : List ℕ → Type 0) (at : ℕ) (now next : List Connection) (a : Connection)
     → IsIdleAt is_unfinished a at now next → unsent next ≡ unsent now
 idle_unsent is_unfinished at now next a is = elim is.2 [
-  | inl same ↦ ap (λ (t : List Connection). unsent t) same
+  | inl same ↦ ap (λ (t : List Connection). unsent t) same.0
   | inr less ↦ lacked_unsent at less.0 now next less.1
 ]
 
@@ -69,7 +66,8 @@ module _ {S : Type 0} (answers : Answering S) (lines : LineRelation) (commits co
 
   -- no slot from `from` on and below `at` has a whole request that may be answered
   abbrev AreQuietBelow : ℕ → List Connection → Type 0
-  AreQuietBelow at now = (k : ℕ) (c : Connection) → from ≤ k → k < at → slice_get now k ≡ Some c → MayAnswer c → is_unfinished c.input
+  AreQuietBelow at now = (k : ℕ) (c : Connection) → from ≤ k → k < at → slice_get now k ≡ Some c → MayAnswer c
+      → is_unfinished c.input × (length c.input < c.needed)
 
   -- the slots from `from` on and below `at` have had their turns
   pub record SoFar (at : ℕ) (any : Bool) (now : List Connection) (new : S) : Type 0 where
@@ -80,10 +78,11 @@ module _ {S : Type 0} (answers : Answering S) (lines : LineRelation) (commits co
     pub before : (k : ℕ) (c : Connection) → from ≤ k → k < at → slice_get table k ≡ Some c → HasItsTurn is_unfinished k c entries
     pub none : (k : ℕ) → (k < from) ⊎ (at ≤ k) → answers_at k entries ≡ 0
     pub same : (k : ℕ) → at ≤ k → slice_get now k ≡ slice_get table k
+    pub first : (from < at) ⊎ (now ≡ table)
     pub made : AreMadeOrSettled now
     pub needs : AreNeeded is_unfinished now
     pub logged : AreLogged entries [] (waiting 0 now)
-    pub sent : unsent now ≡ unsent table + replied entries
+    pub sent : unsent now ≤ unsent table + replied entries
     pub idle : IsFalse any → AreAll IsALack entries × AreSettled now × AreQuietBelow at now
     pub busy : IsTrue any → AreAll IsALack entries → ⊥
 
@@ -96,6 +95,7 @@ module _ {S : Type 0} (answers : Answering S) (lines : LineRelation) (commits co
     before = λ k c begun less found. absurd (omega arith);
     none = λ k h. refl;
     same = λ k h. refl;
+    first = inr refl;
     made = λ k c found. made_or_settled c.stage (ready.settled k c found);
     needs = ready.needs;
     logged = none_waiting 0 table ready.settled;
@@ -111,9 +111,10 @@ module _ {S : Type 0} (answers : Answering S) (lines : LineRelation) (commits co
   apart k at begun h = elim h [ inl less ↦ λ e. omega arith | inr more ↦ λ e. omega arith ]
 
   -- a turn without an entry
-  unchanged : (at : ℕ) (any : Bool) (now : List Connection) (new : S) (a : Connection) → SoFar at any now new
-      → slice_get now at ≡ Some a → (MayAnswer a → is_unfinished a.input) → SoFar (at + 1) any now new
-  unchanged at any now new a so here unfinished =
+  unchanged : (at : ℕ) → from ≤ at → (any : Bool) (now : List Connection) (new : S) (a : Connection) → SoFar at any now new
+      → slice_get now at ≡ Some a → (MayAnswer a → is_unfinished a.input) → (MayAnswer a → length a.input < a.needed)
+      → SoFar (at + 1) any now new
+  unchanged at begun any now new a so here unfinished lacks =
       let none : (c : Connection) → slice_get now at ≡ Some c → MayAnswer c → is_unfinished c.input =
       λ c found. subst (λ (t : Connection). MayAnswer t → is_unfinished t.input) (some_is (sym here ∙ found)) unfinished in
       record {
@@ -127,6 +128,7 @@ module _ {S : Type 0} (answers : Answering S) (lines : LineRelation) (commits co
         ];
         none = λ k h. so.none k (still k at h);
         same = λ k h. so.same k (omega arith);
+        first = inl (omega arith);
         made = so.made;
         needs = so.needs;
         logged = so.logged;
@@ -136,17 +138,21 @@ module _ {S : Type 0} (answers : Answering S) (lines : LineRelation) (commits co
           (so.idle h).0,
           (so.idle h).1,
           λ k c begun less found may. elim (eq_or_not k at) [
-            | inl same ↦ none c (sym (ap (slice_get now) same) ∙ found) may
+            | inl same ↦
+                let is : a ≡ c = some_is (sym here ∙ sym (ap (slice_get now) same) ∙ found) in (
+                  none c (sym (ap (slice_get now) same) ∙ found) may,
+                  subst (λ (t : Connection). MayAnswer t → length t.input < t.needed) is lacks may,
+                )
             | inr other ↦ (so.idle h).2 k c begun (omega arith) found may
           ],
         );
       }
 
   -- a turn in which the service found how many bytes the connection needs
-  lacked : (at : ℕ) (any : Bool) (now next : List Connection) (new : S) (a : Connection) (needed : ℕ) → SoFar at any now new
+  lacked : (at : ℕ) → from ≤ at → (any : Bool) (now next : List Connection) (new : S) (a : Connection) (needed : ℕ) → SoFar at any now new
       → slice_get now at ≡ Some a → (MayAnswer a → is_unfinished a.input) → ChangesAt at (Lacked needed) now next
       → StaysUnfinished is_unfinished a.input needed → SoFar (at + 1) any next new
-  lacked at any now next new a needed so here unfinished change stays =
+  lacked at begun any now next new a needed so here unfinished change stays =
       let e : Entry = At at (Lacked needed) in
       let is_a : a ≡ change.before = some_is (sym here ∙ change.found) in
       let input : a.input ≡ change.after.input = ap (λ (c : Connection). c.input) is_a ∙ sym (ap (λ (c : Connection). c.input) change.changed.2) in
@@ -154,8 +160,11 @@ module _ {S : Type 0} (answers : Answering S) (lines : LineRelation) (commits co
       λ k. answers_join k so.entries (e ∷ []) ∙ omega (arith, if_zero (at == k) 0 refl) in
       let whole : is_unfinished change.after.input =
       subst is_unfinished input (unfinished (subst MayAnswer (sym is_a) change.changed.0)) in
-      let quiet : (k : ℕ) (c : Connection) → at ≡ k → slice_get next k ≡ Some c → is_unfinished c.input =
-      λ k c same found. subst (λ (t : Connection). is_unfinished t.input) (here_after at k (Lacked needed) now next c change same found) whole in
+      let less : length change.after.input < change.after.needed =
+      subst (λ (t : Connection). length t.input < t.needed) (sym change.changed.2) change.changed.1 in
+      let quiet : (k : ℕ) (c : Connection) → at ≡ k → slice_get next k ≡ Some c → is_unfinished c.input × (length c.input < c.needed) =
+      λ k c same found. subst (λ (t : Connection). is_unfinished t.input × (length t.input < t.needed))
+      (here_after at k (Lacked needed) now next c change same found) (whole, less) in
       record {
         entries = so.entries ++ e ∷ [];
         changes = changes_join so.entries (e ∷ []) table now next so.changes (next, change, refl);
@@ -174,6 +183,7 @@ module _ {S : Type 0} (answers : Answering S) (lines : LineRelation) (commits co
         ];
         none = λ k h. count k ∙ so.none k (still k at h);
         same = λ k h. there_after at k (Lacked needed) now next change (λ e. omega arith) ∙ so.same k (omega arith);
+        first = inl (omega arith);
         made = λ k c found. elim (eq_or_not at k) [
           | inl same ↦
               subst (λ (t : Connection). IsMadeOrSettled t.stage) (here_after at k (Lacked needed) now next c change same found)
@@ -211,11 +221,11 @@ module _ {S : Type 0} (answers : Answering S) (lines : LineRelation) (commits co
         );
       }
 
-  pub idle_turn : (at : ℕ) (any : Bool) (now next : List Connection) (new : S) (a : Connection) → SoFar at any now new
+  pub idle_turn : (at : ℕ) → from ≤ at → (any : Bool) (now next : List Connection) (new : S) (a : Connection) → SoFar at any now new
       → IsIdleAt is_unfinished a at now next → SoFar (at + 1) any next new
-  idle_turn at any now next new a so is = elim is.2 [
-    | inl same ↦ subst (λ (t : List Connection). SoFar (at + 1) any t new) (sym same) (unchanged at any now new a so is.0 is.1)
-    | inr less ↦ lacked at any now next new a less.0 so is.0 is.1 less.1 less.2
+  idle_turn at begun any now next new a so is = elim is.2 [
+    | inl same ↦ subst (λ (t : List Connection). SoFar (at + 1) any t new) (sym same.0) (unchanged at begun any now new a so is.0 is.1 same.1)
+    | inr less ↦ lacked at begun any now next new a less.0 so is.0 is.1 less.1 less.2
   ]
 
   pub answered : AreSettled table → (at : ℕ) → from ≤ at → (any : Bool) (now next : List Connection) (new last : S)
@@ -253,6 +263,7 @@ module _ {S : Type 0} (answers : Answering S) (lines : LineRelation) (commits co
         ];
         none = λ k h. other k (apart k at begun h) ∙ so.none k (still k at h);
         same = λ k h. there_after at k (Answered request closes reply line) now next change (λ e. omega arith) ∙ so.same k (omega arith);
+        first = inl (omega arith);
         made = λ k c found. elim (eq_or_not at k) [
           | inl here ↦
               let is = here_after at k (Answered request closes reply line) now next c change here found in
@@ -278,19 +289,28 @@ module _ {S : Type 0} (answers : Answering S) (lines : LineRelation) (commits co
       }
 
   pub quiet : (at : ℕ) (any : Bool) (now : List Connection) (new : S) → SoFar at any now new → IsFalse any → from ≡ 0
-      → length now ≤ at → IsQuiet is_unfinished now
-  quiet at any now new so idle zero whole k c found may =
-      let less = slice_get_within now k c found in (so.idle idle).2 k c (omega (arith, zero)) (omega arith) found may
+      → length now ≤ at → IsQuiet is_unfinished now × AreLacking now
+  quiet at any now new so idle zero whole =
+      let each : (k : ℕ) (c : Connection) → slice_get now k ≡ Some c → MayAnswer c → is_unfinished c.input × (length c.input < c.needed) =
+      λ k c found may. let less = slice_get_within now k c found in (so.idle idle).2 k c (omega (arith, zero)) (omega arith) found may in
+      (λ k c found may. (each k c found may).0, λ k c found may. (each k c found may).1)
 
   -- the entries are a round if it ends here
   pub rounded : (at end : ℕ) (any : Bool) (now : List Connection) (new : S) → (so : SoFar at any now new) → end ≤ at
-      → ((k : ℕ) → end ≤ k → (k < from) ⊎ (at ≤ k)) → (end ≡ length table) ⊎ ((end < length table) × (MAX_UNSENT < unsent now))
+      → ((k : ℕ) → end ≤ k → (k < from) ⊎ (at ≤ k)) → (end ≡ length table) ⊎ ((end ≡ at) × (end < length table) × (MAX_UNSENT < unsent now))
       → IsRound is_unfinished from end table so.entries
   rounded at end any now new so within beyond stop = record {
     turns = λ k c begun less found. so.before k c begun (omega arith) found;
     others = λ k h. so.none k (elim h as (λ _. (k < from) ⊎ (at ≤ k)) [ inl less ↦ inl less | inr more ↦ beyond k more ]);
     stop = elim stop as (λ _. (end ≡ length table) ⊎ ((end < length table) × (MAX_UNSENT < unsent table + replied so.entries))) [
       | inl whole ↦ inl whole
-      | inr full ↦ inr (full.0, omega (arith, so.sent, full.1))
+      | inr full ↦ inr (full.1, omega (arith, so.sent, full.2))
+    ];
+    first = λ inside few. elim stop [
+      | inl whole ↦ omega arith
+      | inr full ↦ elim so.first [
+        | inl less ↦ omega (arith, full.0, less)
+        | inr same ↦ absurd (omega (arith, full.2, few, ap (λ (t : List Connection). unsent t) same))
+      ]
     ];
   }

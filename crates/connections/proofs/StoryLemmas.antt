@@ -7,7 +7,7 @@ use Rattle.std.proofs.lemmas.Option.{slice_get_within}
 use Rattle.connections.specs.Connections.{AreChanges, Change, ChangesAt, Connection, Entry, IsChange, fresh, start_of}
 use Rattle.connections.specs.Connections.{committed, committed_at, uncommitted, uncommitted_at}
 use Rattle.connections.specs.Connections.{At, Committed, Uncommitted}
-use Rattle.connections.specs.Connections.{Opened, Reserved, Came, Ended, Lacked, Answered, Logged, CutOff, Took, Gone}
+use Rattle.connections.specs.Connections.{Opened, Reserved, Came, Ended, Asked, Lacked, Answered, Logged, CutOff, Took, Gone}
 use Rattle.connections.specs.Stories.{Turn, Story, no_story, continued, story_from, story_at, IsOneStream, IsLeftOfLast, IsHeldBack, Fits, AreFree, StoriesFit}
 use Rattle.connections.specs.declared.TheConstants.{MAX_READ}
 use Rattle.connections.specs.declared.slot.Stage.{Stage}
@@ -33,6 +33,12 @@ joined f turns t = flat_map-append f turns (t ∷ []) ∙ ap (λ (xs : List ℕ)
 first_fits : (is_open : Bool) (now : ℕ) → Fits no_story (fresh is_open now)
 first_fits is_open now = record { came = refl; took = refl; unsent = inl refl; held_back = tt; one_stream = refl; small = lit≤ tt }
 
+-- the last reply moves to another stage
+moved : (st : Story) (s : Stage) (a : Connection) (line : List ℕ) → IsHeldBack s a.output st.turns → Fits st a
+    → Fits st (record a { stage = s; line = line })
+moved st s a line held fits =
+    record { came = fits.came; took = fits.took; unsent = fits.unsent; held_back = held; one_stream = fits.one_stream; small = fits.small }
+
 -- a connection still fits its story after one more change
 step : (st : Story) (change : Change) (a b : Connection) → Fits st a → IsChange change a b → Fits (continued st change) b
 step st (Opened now) a b fits h = subst (Fits no_story) (sym h.1) (first_fits true now)
@@ -53,6 +59,7 @@ step st (Came bytes now) a b fits h =
       spare = a.spare - length bytes;
       since = now;
       began = start_of a.input a.began now;
+      asked = false;
     }) =
     record {
       came = ap (λ (t : List ℕ). t ++ bytes) fits.came ∙ append_assoc (flat_map (λ t. t.request) st.turns) a.input bytes;
@@ -67,6 +74,17 @@ step st Ended a b fits h =
     let next : Fits st (record a { ended = true }) =
     record { came = fits.came; took = fits.took; unsent = fits.unsent; held_back = fits.held_back; one_stream = fits.one_stream; small = fits.small } in
     subst (Fits st) (sym h.1) next
+step st (Asked now) a b fits h =
+    let next : Fits st (record a {
+      since = if a.offered then a.since else now;
+      began = if a.offered then a.began else now;
+      offered = true;
+      offered_at = if a.offered then a.offered_at else now;
+      asked = true;
+      asked_at = now;
+    }) =
+    record { came = fits.came; took = fits.took; unsent = fits.unsent; held_back = fits.held_back; one_stream = fits.one_stream; small = fits.small } in
+    subst (Fits st) (sym h.1) next
 step st (Lacked needed) a b fits h =
     let next : Fits st (record a { needed = needed }) =
     record { came = fits.came; took = fits.took; unsent = fits.unsent; held_back = fits.held_back; one_stream = fits.one_stream; small = fits.small } in
@@ -74,7 +92,7 @@ step st (Lacked needed) a b fits h =
 step st (Answered request closes reply line) a b fits h =
     let turn : Turn = record { request = request; closes = closes; reply = reply } in
     let next : Fits (continued st (Answered request closes reply line))
-    (record a { closing = closes; stage = Stages.Made; input = b.input; output = reply; line = line; needed = 0; began = a.since }) =
+    (record a { closing = closes; stage = Stages.Made; input = b.input; output = reply; line = line; needed = 0; began = a.since; reply_size = length reply; offered = false; asked = false }) =
     record {
       came = fits.came ∙ ap (λ (t : List ℕ). flat_map (λ t. t.request) st.turns ++ t) h.2
           ∙ sym (append_assoc (flat_map (λ t. t.request) st.turns) request b.input)
@@ -87,25 +105,20 @@ step st (Answered request closes reply line) a b fits h =
       small = omega (arith, fits.small, simp length-append at (ap length h.2));
     } in
     subst (Fits (continued st (Answered request closes reply line))) (sym h.3) next
-step st (Logged line) a b fits h =
-    let next : Fits st (record a { stage = Stages.Logged; line = [] }) =
-    record { came = fits.came; took = fits.took; unsent = fits.unsent; held_back = tt; one_stream = fits.one_stream; small = fits.small } in
-    subst (Fits st) (sym h.2) next
+step st (Logged line) a b fits h = subst (Fits st) (sym h.2) (moved st Stages.Logged a [] tt fits)
 step st (CutOff line) a b fits h =
-    let next : Fits st (record a { stage = Stages.Unlogged; line = [] }) =
-    record {
-      came = fits.came;
-      took = fits.took;
-      unsent = fits.unsent;
-      held_back = subst (λ (s : Stage). IsHeldBack s a.output st.turns) h.0 fits.held_back;
-      one_stream = fits.one_stream;
-      small = fits.small;
-    } in
-    subst (Fits st) (sym h.2) next
+    subst (Fits st) (sym h.2) (moved st Stages.Unlogged a [] (subst (λ (s : Stage). IsHeldBack s a.output st.turns) h.0 fits.held_back) fits)
 step st (Took bytes now) a b fits h =
     let left : IsLeftOfLast a.output st.turns → IsLeftOfLast b.output st.turns =
     λ was. elim was [ inl none ↦ inl (none_left bytes b.output (sym h.3 ∙ none)) | inr some ↦ inr (some.0, some.1, some.2 ++ bytes, some.3, some.4 ∙ ap (λ (t : List ℕ). some.2 ++ t) h.3 ∙ sym (append_assoc some.2 bytes b.output)) ] in
-    let next : Fits (continued st (Took bytes now)) (record a { output = b.output; since = now; began = now }) =
+    let next : Fits (continued st (Took bytes now)) (record a {
+      output = b.output;
+      since = now;
+      began = now;
+      offered = true;
+      offered_at = if a.offered then a.offered_at else now;
+      asked = false;
+    }) =
     record {
       came = fits.came;
       took = fits.took ∙ ap (λ (t : List ℕ). st.took ++ t) h.3 ∙ sym (append_assoc st.took bytes b.output);
@@ -119,28 +132,16 @@ step st (Gone why) a b fits h = subst (Fits no_story) (sym h.2) (first_fits fals
 
 -- the same after a commit, and after one that failed
 after_commit : (st : Story) (s : Stage) (a : Connection) → a.stage ≡ s → Fits st a → Fits st (committed_at s a)
-after_commit st Stages.Made a h fits = record {
-  came = fits.came;
-  took = fits.took;
-  unsent = fits.unsent;
-  held_back = subst (λ (s : Stage). IsHeldBack s a.output st.turns) h fits.held_back;
-  one_stream = fits.one_stream;
-  small = fits.small;
-}
+after_commit st Stages.Made a h fits =
+    moved st Stages.Committed a a.line (subst (λ (s : Stage). IsHeldBack s a.output st.turns) h fits.held_back) fits
 after_commit st Stages.Committed a h fits = fits
 after_commit st Stages.Logged a h fits = fits
 after_commit st Stages.Uncommitted a h fits = fits
 after_commit st Stages.Unlogged a h fits = fits
 
 after_failure : (st : Story) (s : Stage) (a : Connection) → a.stage ≡ s → Fits st a → Fits st (uncommitted_at s a)
-after_failure st Stages.Made a h fits = record {
-  came = fits.came;
-  took = fits.took;
-  unsent = fits.unsent;
-  held_back = subst (λ (s : Stage). IsHeldBack s a.output st.turns) h fits.held_back;
-  one_stream = fits.one_stream;
-  small = fits.small;
-}
+after_failure st Stages.Made a h fits =
+    moved st Stages.Uncommitted a [] (subst (λ (s : Stage). IsHeldBack s a.output st.turns) h fits.held_back) fits
 after_failure st Stages.Committed a h fits = fits
 after_failure st Stages.Logged a h fits = fits
 after_failure st Stages.Uncommitted a h fits = fits

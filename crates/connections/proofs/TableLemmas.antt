@@ -60,9 +60,10 @@ sum_set f [] i x y h = cc
 sum_set f (a ∷ xs) zero x y h = omega (arith, sum_by-cons f y xs, sum_by-cons f a xs, ap f (some_is h))
 sum_set f (a ∷ xs) (suc i) x y h = omega (arith, sum_by-cons f a (slice_set xs i y), sum_by-cons f a xs, sum_set f xs i x y h)
 
-pub sum_map : {X : Type 0} (f : X → ℕ) (g : X → X) (xs : List X) → ((x : X) → f (g x) ≡ f x) → sum_by f (map g xs) ≡ sum_by f xs
-sum_map f g [] same = refl
-sum_map f g (x ∷ xs) same = omega (arith, sum_by-cons f (g x) (map g xs), sum_by-cons f x xs, same x, sum_map f g xs same)
+pub sum_map_le : {X : Type 0} (f : X → ℕ) (g : X → X) (xs : List X) → ((x : X) → f (g x) ≤ f x) → sum_by f (map g xs) ≤ sum_by f xs
+sum_map_le f g [] less = omega arith
+sum_map_le f g (x ∷ xs) less =
+    omega (arith, sum_by-cons f (g x) (map g xs), sum_by-cons f x xs, less x, sum_map_le f g xs less)
 
 pub get_map : {X : Type 0} (f : X → X) (xs : List X) (i : ℕ) (x : X) → slice_get xs i ≡ Some x → slice_get (map f xs) i ≡ Some (f x)
 get_map f [] i x h = cc
@@ -94,8 +95,11 @@ mapped_suc f zero (a ∷ xs) x h = ap (λ t. f t ∷ xs) (sym (some_is h))
 mapped_suc f (suc n) [] x h = cc
 mapped_suc f (suc n) (a ∷ xs) x h = ap (λ t. f a ∷ t) (mapped_suc f n xs x h)
 
-pub mapped_more : {X : Type 0} (f : X → X) (n : ℕ) (xs : List X) (d : X) → n < length (mapped f n xs)
-    → slice_set (mapped f n xs) n (f (get_or (mapped f n xs) n d)) ≡ mapped f (n + 1) xs
-mapped_more f n xs d less =
-    mapped_suc f n xs (get_or (mapped f n xs) n d) (slice_get-get_or (mapped f n xs) n d less)
+-- one more element is mapped in its place
+pub mapped_more : {X : Type 0} (f : X → X) (n : ℕ) (xs now : List X) (d y : X) → now ≡ mapped f n xs → n < length now
+    → y ≡ f (get_or now n d) → slice_set now n y ≡ mapped f (n + 1) xs
+mapped_more f n xs now d y is less same =
+    ap (λ t. slice_set now n t) same
+    ∙ ap (λ t. slice_set t n (f (get_or now n d))) is
+    ∙ mapped_suc f n xs (get_or now n d) (ap (λ t. slice_get t n) (sym is) ∙ slice_get-get_or now n d less)
     ∙ ap (λ k. mapped f k xs) (sym (add-one n))

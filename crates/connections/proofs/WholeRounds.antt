@@ -41,6 +41,7 @@ module _ {S L : Type 0} (answers : Answering S) (lines : LineRelation) (commits 
         turns = λ at c begun less found.
             subst (λ (n : ℕ). (n ≡ 1) ⊎ ((n ≡ 0) × (MayAnswer c → is_unfinished c.input))) (same at) (round.turns at c begun less found);
         others = λ at h. sym (same at) ∙ round.others at h;
+        first = round.first;
         stop = elim round.stop as (λ _. (end ≡ length table) ⊎ ((end < length table) × (MAX_UNSENT < unsent table + replied (es ++ more)))) [
           | inl whole ↦ inl whole
           | inr full ↦ inr (full.0, omega (arith, full.1, replied_join es more, nothing))

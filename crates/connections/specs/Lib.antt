@@ -6,8 +6,10 @@ pub mod Rounds
 pub mod Answers
 pub mod Made
 pub mod Bounds
+pub mod Times
 pub mod Limits
 pub mod Runs
 pub mod Quiet
 pub mod Ready
 pub mod inner
+pub mod Losses

@@ -2,7 +2,7 @@
 -- Source: RFC 9112, section 9.6 (tear-down).
 -- Rules of this product: a call for which the connection is not ready has no effect.
 use Rattle.std.specs.Prelude.{◌≡◌, ◌≤◌, ◌<◌, ℕ, Bool, true, false, List, length, take, Some, slice_get}
-use Rattle.connections.specs.Connections.{Change, ChangesAt, Connection, HasRoom, MayGo, MayRead, Reserved}
+use Rattle.connections.specs.Connections.{Change, ChangesAt, Connection, HasRoom, IsCalledFor, MayGo, MayRead, Reserved}
 use Rattle.connections.specs.declared.slot.Reason.{Reason}
 use Rattle.connections.specs.declared.slot.Stage.TheVariants as Stages
 
@@ -28,7 +28,11 @@ MayTake c = (c.is_open ≡ true) × (c.stage ≡ Stages.Logged)
 abbrev pub MayClose : Reason → Connection → Type 0
 MayClose why c = (c.is_open ≡ true) × MayGo why c
 
--- `MayTakeSome count c` holds if moreover the reply has a byte among the first `count`.
+-- `MayEnd why table c` holds if moreover the table gives that reason.
+abbrev pub MayEnd : Reason → List Connection → Connection → Type 0
+MayEnd why table c = MayClose why c × IsCalledFor why table
+
+-- `MayTakeSome count c` holds if `MayTake c` holds, and the reply has a byte among the first `count`.
 abbrev pub MayTakeSome : ℕ → Connection → Type 0
 MayTakeSome count c = MayTake c × (0 < length (take count c.output))
 

@@ -2,12 +2,14 @@
 -- then the replies are committed, and the log gets their lines.
 -- Source: RFC 9112, section 9.3 (one after another, in order).
 -- Rules of this product: one request of a connection in a round, however many it has sent; one commit in a round. A
--- round stops at the slot at which more than `MAX_UNSENT` bytes of replies are unsent, where the next round begins.
+-- round stops at the slot at which more than `MAX_UNSENT` bytes of replies and lines are unsent. The next round begins
+-- there, so no slot has a second turn before each other one has had its first.
 use Rattle.std.specs.Prelude.{◌≡◌, ◌≤◌, ◌<◌, ◌+◌, ◌==◌, ◌⊎◌, ℕ, List, [], ◌∷◌, ◌++◌, if◌then◌else◌}
-use Rattle.std.specs.Prelude.{Some, length, slice_get}
+use Rattle.std.specs.Prelude.{Some, length, nat_lt, slice_get}
 use Rattle.connections.specs.Connections.{Change, Connection, Entry, MayAnswer, unsent}
 use Rattle.connections.specs.Connections.{At, Committed, Uncommitted}
-use Rattle.connections.specs.Connections.{Opened, Reserved, Came, Ended, Lacked, Answered, Logged, CutOff, Took, Gone}
+use Rattle.connections.specs.Connections.{Opened, Reserved, Came, Ended, Asked, Lacked}
+use Rattle.connections.specs.Connections.{Answered, Logged, CutOff, Took, Gone}
 use Rattle.connections.specs.Framing.{StaysUnfinished}
 use Rattle.connections.specs.declared.TheConstants.{MAX_UNSENT}
 use Rattle.connections.specs.declared.slot.Stage.{Stage}
@@ -21,6 +23,7 @@ IsATurn (Opened now) = ⊥
 IsATurn Reserved = ⊥
 IsATurn (Came bytes now) = ⊥
 IsATurn Ended = ⊥
+IsATurn (Asked now) = ⊥
 IsATurn (Lacked needed) = Unit {0}
 IsATurn (Answered request closes reply line) = Unit {0}
 IsATurn (Logged line) = ⊥
@@ -34,6 +37,7 @@ IsALack (Opened now) = ⊥
 IsALack Reserved = ⊥
 IsALack (Came bytes now) = ⊥
 IsALack Ended = ⊥
+IsALack (Asked now) = ⊥
 IsALack (Lacked needed) = Unit {0}
 IsALack (Answered request closes reply line) = ⊥
 IsALack (Logged line) = ⊥
@@ -47,6 +51,7 @@ IsALine (Opened now) = ⊥
 IsALine Reserved = ⊥
 IsALine (Came bytes now) = ⊥
 IsALine Ended = ⊥
+IsALine (Asked now) = ⊥
 IsALine (Lacked needed) = ⊥
 IsALine (Answered request closes reply line) = ⊥
 IsALine (Logged line) = Unit {0}
@@ -67,6 +72,7 @@ answers_in (Opened now) = 0
 answers_in Reserved = 0
 answers_in (Came bytes now) = 0
 answers_in Ended = 0
+answers_in (Asked now) = 0
 answers_in (Lacked needed) = 0
 answers_in (Answered request closes reply line) = 1
 answers_in (Logged line) = 0
@@ -81,20 +87,21 @@ answers_at at (At slot change ∷ entries) = (if slot == at then answers_in chan
 answers_at at (Committed ∷ entries) = answers_at at entries
 answers_at at (Uncommitted ∷ entries) = answers_at at entries
 
--- `reply_in change` is the number of bytes of the reply if the change is an answer, else 0.
+-- `reply_in change` is the number of bytes of the reply and of its line if the change is an answer, else 0.
 abbrev pub reply_in : Change → ℕ
 reply_in (Opened now) = 0
 reply_in Reserved = 0
 reply_in (Came bytes now) = 0
 reply_in Ended = 0
+reply_in (Asked now) = 0
 reply_in (Lacked needed) = 0
-reply_in (Answered request closes reply line) = length reply
+reply_in (Answered request closes reply line) = length reply + length line
 reply_in (Logged line) = 0
 reply_in (CutOff line) = 0
 reply_in (Took bytes now) = 0
 reply_in (Gone why) = 0
 
--- `replied entries` is the number of bytes of the replies that the entries make.
+-- `replied entries` is the number of bytes of the replies that the entries make, and of their lines.
 abbrev pub replied : List Entry → ℕ
 replied [] = 0
 replied (At slot change ∷ entries) = reply_in change + replied entries
@@ -113,6 +120,11 @@ IsOrdered did.Answered entries =
     (turns lines : List Entry) × AreTurns turns × AreAll IsALine lines × (entries ≡ turns ++ Committed ∷ lines)
 IsOrdered did.Uncommitted entries = (turns : List Entry) × AreTurns turns × (entries ≡ turns ++ Uncommitted ∷ [])
 
+-- `next_slot end places` is the slot at which the round after one that ended at `end` is to begin, in a table of
+-- `places` slots.
+abbrev pub next_slot : ℕ → ℕ → ℕ
+next_slot end places = if nat_lt end places then end else 0
+
 -- `IsSettledAt s` holds if a reply at the stage `s` waits neither for a commit nor for the log.
 abbrev pub IsSettledAt : Stage → Type 0
 IsSettledAt Stages.Made = ⊥
@@ -124,6 +136,12 @@ IsSettledAt Stages.Unlogged = Unit {0}
 -- `AreSettled table` holds if no reply of the table waits for a commit or for the log.
 abbrev pub AreSettled : List Connection → Type 0
 AreSettled table = (at : ℕ) (c : Connection) → slice_get table at ≡ Some c → IsSettledAt c.stage
+
+-- `AreLacking table` holds if each connection that may have a request answered is known to have no whole one, so that
+-- it may be read from unless its client has ended.
+abbrev pub AreLacking : List Connection → Type 0
+AreLacking table =
+    (at : ℕ) (c : Connection) → slice_get table at ≡ Some c → MayAnswer c → length c.input < c.needed
 
 module _ (is_unfinished : List ℕ → Type 0) where
   -- `AreNeeded table` holds if the bytes of each connection, with whatever follows, are less than a request below the
@@ -147,10 +165,12 @@ module _ (is_unfinished : List ℕ → Type 0) where
   -- `IsRound from end table entries` holds if the entries are a round of the table `table`, from the slot `from` on:
   -- - turns: each connection at a slot from `from` on and below `end` has its turn.
   -- - others: no request is answered at any other slot.
-  -- - stop: `end` is the number of slots; or it is one of them, and more than `MAX_UNSENT` bytes of replies are unsent.
+  -- - first: if at most `MAX_UNSENT` bytes of replies and lines are unsent before, the slot `from` has its turn.
+  -- - stop: `end` is the number of slots; or it is one of them, and more than `MAX_UNSENT` bytes are unsent.
   pub record IsRound (from end : ℕ) (table : List Connection) (entries : List Entry) : Type 0 where
     pub turns : (at : ℕ) (c : Connection) → from ≤ at → at < end → slice_get table at ≡ Some c → HasItsTurn at c entries
     pub others : (at : ℕ) → (at < from) ⊎ (end ≤ at) → answers_at at entries ≡ 0
+    pub first : from < length table → unsent table ≤ MAX_UNSENT → from < end
     pub stop : (end ≡ length table) ⊎ ((end < length table) × (MAX_UNSENT < unsent table + replied entries))
 
   -- `IsQuiet table` holds if no connection that may have a request answered has a whole one.

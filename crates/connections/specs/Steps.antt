@@ -3,10 +3,11 @@
 -- Rules of this product: all answered requests, of all connections, are one chain of steps of the service, which
 -- commits the replies of a round before the log gets any of their lines; the log gets the lines in the order of the
 -- answers.
-use Rattle.std.specs.Prelude.{◌≡◌, ◌⊎◌, ℕ, Bool, List, [], ◌∷◌, ◌++◌}
+use Rattle.std.specs.Prelude.{◌≡◌, ◌<◌, ◌⊎◌, ℕ, Bool, List, [], ◌∷◌, ◌++◌, length}
 use Rattle.connections.specs.Connections.{AreChanges, Change, Connection, Entry, IsChange, MayAnswer}
 use Rattle.connections.specs.Connections.{At, Committed, Uncommitted}
-use Rattle.connections.specs.Connections.{Opened, Reserved, Came, Ended, Lacked, Answered, Logged, CutOff, Took, Gone}
+use Rattle.connections.specs.Connections.{Opened, Reserved, Came, Ended, Asked, Lacked}
+use Rattle.connections.specs.Connections.{Answered, Logged, CutOff, Took, Gone}
 use Rattle.connections.specs.Framing.{StaysUnfinished}
 
 -- An `Answering S` relates a state of a service, the bytes of a request, whether the reply ends the connection, the
@@ -29,6 +30,7 @@ module _ {S : Type 0} (answers : Answering S) (lines : LineRelation) (commits co
   StepsAt old Reserved new = new ≡ old
   StepsAt old (Came bytes now) new = new ≡ old
   StepsAt old Ended new = new ≡ old
+  StepsAt old (Asked now) new = new ≡ old
   StepsAt old (Lacked needed) new = new ≡ old
   StepsAt old (Answered request closes reply line) new =
       answers old request closes reply new × lines request closes reply line
@@ -54,10 +56,11 @@ module _ {S : Type 0} (answers : Answering S) (lines : LineRelation) (commits co
     pub changed : IsChange (Answered request closes reply line) a b
 
 -- `IsIdle is_unfinished a b` holds if the connection `a` may not have a request answered, or has no whole one; and `b`
--- is `a`, or the service found how many bytes it needs, which gives `b`.
+-- is `a`, which is known to have none; or the service found how many bytes it needs, which gives `b`.
 pub record IsIdle (is_unfinished : List ℕ → Type 0) (a b : Connection) : Type 0 where
   pub none : MayAnswer a → is_unfinished a.input
-  pub change : (b ≡ a) ⊎ (IsChange (Lacked b.needed) a b × StaysUnfinished is_unfinished a.input b.needed)
+  pub change : ((b ≡ a) × (MayAnswer a → length a.input < a.needed))
+      ⊎ (IsChange (Lacked b.needed) a b × StaysUnfinished is_unfinished a.input b.needed)
 
 -- `writes` and `cuts` relate the states of a log around a call that wrote a whole line, and around one that wrote only
 -- a proper prefix of it.
@@ -69,6 +72,7 @@ module _ {L : Type 0} (writes cuts : L → List ℕ → L → Type 0) where
   NotesAt old Reserved new = new ≡ old
   NotesAt old (Came bytes now) new = new ≡ old
   NotesAt old Ended new = new ≡ old
+  NotesAt old (Asked now) new = new ≡ old
   NotesAt old (Lacked needed) new = new ≡ old
   NotesAt old (Answered request closes reply line) new = new ≡ old
   NotesAt old (Logged line) new = writes old line new
@@ -103,6 +107,7 @@ IsLoggedAt at (Opened now) lines more = more ≡ lines
 IsLoggedAt at Reserved lines more = more ≡ lines
 IsLoggedAt at (Came bytes now) lines more = more ≡ lines
 IsLoggedAt at Ended lines more = more ≡ lines
+IsLoggedAt at (Asked now) lines more = more ≡ lines
 IsLoggedAt at (Lacked needed) lines more = more ≡ lines
 IsLoggedAt at (Answered request closes reply line) lines more = more ≡ lines ++ record { at = at; text = line } ∷ []
 IsLoggedAt at (Logged line) lines more = NotesNext at line lines more

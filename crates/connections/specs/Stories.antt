@@ -5,7 +5,8 @@ use Rattle.std.specs.Prelude.{if◌then◌else◌}
 use Rattle.std.specs.List.{flat_map}
 use Rattle.connections.specs.Connections.{AreChanges, Change, Connection, Entry, fresh}
 use Rattle.connections.specs.Connections.{At, Committed, Uncommitted}
-use Rattle.connections.specs.Connections.{Opened, Reserved, Came, Ended, Lacked, Answered, Logged, CutOff, Took, Gone}
+use Rattle.connections.specs.Connections.{Opened, Reserved, Came, Ended, Asked, Lacked}
+use Rattle.connections.specs.Connections.{Answered, Logged, CutOff, Took, Gone}
 use Rattle.connections.specs.declared.TheConstants.{MAX_INPUT}
 use Rattle.connections.specs.declared.slot.Stage.{Stage}
 use Rattle.connections.specs.declared.slot.Stage.TheVariants as Stages
@@ -32,6 +33,7 @@ continued st (Opened now) = no_story
 continued st Reserved = st
 continued st (Came bytes now) = record st { came = st.came ++ bytes }
 continued st Ended = st
+continued st (Asked now) = st
 continued st (Lacked needed) = st
 continued st (Answered request closes reply line) =
     record st { turns = st.turns ++ record { request = request; closes = closes; reply = reply } ∷ [] }

@@ -1,4 +1,3 @@
 pub mod Turns
 pub mod Waiting
-pub mod Times
 pub mod Earliest

@@ -1,15 +1,16 @@
 //! Events from outside, and runs over lists of them.
-ghost use Rattle.std.specs.Prelude.{◌≡◌, ◌++◌, List, OnOk, OnErr};
+ghost use Rattle.std.specs.Prelude.{◌≡◌, ◌++◌, ◌∷◌, ℕ, List, OnOk, OnErr};
 ghost use Rattle.connections.specs.Rounds.{AreReady};
 ghost use Rattle.connections.specs.Runs.{IsHandled, IsServed};
 ghost use Rattle.connections.specs.Steps.{Notes, Steps};
+ghost use Rattle.connections.specs.declared.event.Event.TheVariants.{Readied};
 
 use crate::laws::{stories_fit, tables_are_bounded, tables_are_ready};
 use crate::limits::close_all;
 use crate::logging::Log;
 use crate::service::Service;
 use crate::slot::{Reason, Slot};
-use crate::table::{arrive, close, end, open, reserve, round, take};
+use crate::table::{arrive, ask, close, end, open, reserve, round, take};
 use std::alloc::AllocError;
 
 /// What happens outside at a slot of the table, or a round of answers.
@@ -23,6 +24,8 @@ pub enum Event {
     Arrived(usize, Vec<u8>, u64),
     /// The client will send no more.
     Finished(usize),
+    /// The client was asked at this time, and sent or took nothing: a read found no byte, or a write took none.
+    Waited(usize, u64),
     /// The writer takes this many bytes, or all if there are fewer, at this time.
     Writable(usize, usize, u64),
     /// The connection is closed for this reason.
@@ -37,7 +40,7 @@ pub enum Event {
 ///
 /// # Errors
 ///
-/// - `AllocError`: an allocation failed; the table, the service and the log are unchanged.
+/// - `AllocError`: an allocation failed, at [`Event::Readied`]; the table, the service and the log are unchanged.
 pub fn handle<S: Service, L: Log>(
     slots: &mut [Slot],
     service: &mut S,
@@ -48,6 +51,7 @@ pub fn handle<S: Service, L: Log>(
     ensures ok { OnOk result (IsHandled (Steps S.answers S.lines S.commits S.commit_fails) (Notes L.writes L.cuts)
         S.is_unfinished event.now slots.old service.old log.old slots.new service.new log.new) }
     ensures err { OnErr result ((slots.new ≡ slots.old) × (service.new ≡ service.old) × (log.new ≡ log.old)) }
+    ensures reading { OnErr result ((at : ℕ) × (event.now ≡ Readied at)) }
     ensures ready { AreReady S.is_unfinished slots.new }
 {
     tables_are_ready::<S>();
@@ -63,6 +67,9 @@ pub fn handle<S: Service, L: Log>(
         }
         Event::Finished(at) => {
             end(slots, *at);
+        }
+        Event::Waited(at, now) => {
+            ask(slots, *at, *now);
         }
         Event::Writable(at, count, now) => {
             take(slots, *at, *count, *now);
@@ -84,7 +91,7 @@ pub fn handle<S: Service, L: Log>(
 ///
 /// # Errors
 ///
-/// - `AllocError`: an allocation failed; the events before the one that needed it are handled.
+/// - `AllocError`: an allocation failed, at an [`Event::Readied`]; exactly the events before it are handled.
 pub fn run<S: Service, L: Log>(
     slots: &mut [Slot],
     service: &mut S,
@@ -94,7 +101,7 @@ pub fn run<S: Service, L: Log>(
     requires { AreReady S.is_unfinished slots.old }
     ensures ok { OnOk result (IsServed (Steps S.answers S.lines S.commits S.commit_fails) (Notes L.writes L.cuts)
         S.is_unfinished events.now slots.old service.old log.old slots.new service.new log.new) }
-    ensures err { OnErr result ((front rest : List Event) × (events.now ≡ front ++ rest)
+    ensures err { OnErr result ((front rest : List Event) × (at : ℕ) × (events.now ≡ front ++ Readied at ∷ rest)
         × IsServed (Steps S.answers S.lines S.commits S.commit_fails) (Notes L.writes L.cuts)
         S.is_unfinished front slots.old service.old log.old slots.new service.new log.new) }
     ensures ready { AreReady S.is_unfinished slots.new }

@@ -1,6 +1,7 @@
 //! Theorems on many connections. The functions are no-ops.
 ghost use Rattle.connections.specs.Bounds.{TablesAreBounded};
 ghost use Rattle.connections.specs.Framing.{HasOneCut};
+ghost use Rattle.connections.specs.Losses.{LostRepliesEnd};
 ghost use Rattle.connections.specs.Quiet.{QuietAreAnswered};
 ghost use Rattle.connections.specs.Ready.{TablesAreReady};
 ghost use Rattle.connections.specs.Stories.{StoriesFit};
@@ -33,4 +34,10 @@ pub fn tables_are_ready<S: Service>()
 /// Proves that each table to which entries lead from a free one holds a bounded number of bytes. No-op.
 pub fn tables_are_bounded()
     ensures { TablesAreBounded }
+{}
+
+/// Proves that a connection whose last reply was lost, since its commit failed or its line was cut off, is closed for
+/// that reason, and nothing else happens to it before. No-op.
+pub fn lost_replies_end()
+    ensures { LostRepliesEnd }
 {}

@@ -12,7 +12,7 @@ pub mod logging;
 pub mod service;
 pub mod slot;
 pub mod table;
-mod times;
+pub mod times;
 
 /// The most bytes of a request.
 pub const MAX_REQUEST: usize = 8_404_992;
@@ -29,13 +29,20 @@ pub const REPLY_ROOM: usize = 512;
 /// The least capacity of the memory for a line that a service is given.
 pub const LINE_ROOM: usize = 64;
 
-/// The milliseconds that a request has from its first byte on: a head or a short request.
+/// The milliseconds that a request has from its first byte on, a head or a short request; and that a reply has from its
+/// offer on.
 pub const REQUEST_MILLIS: u64 = 10_000;
 
-/// The least rate of a longer request: so many bytes beyond the first `MAX_READ` give it a millisecond more.
+/// The least rate of a longer request, and of a reply: so many bytes beyond the first `MAX_READ`, or that were taken,
+/// give it a millisecond more.
 pub const BYTES_PER_MILLI: usize = 4;
 
-/// The milliseconds after which an idle connection may make room for another.
+/// The least rate of a reply while more than [`MAX_UNSENT`] bytes are unsent: so many bytes that were taken give it a
+/// millisecond more.
+pub const CROWDED_PER_MILLI: usize = 1_024;
+
+/// The milliseconds after which an idle connection may make room for another, and a slow reader is closed if too many
+/// bytes are unsent.
 pub const ROOM_MILLIS: u64 = 1_000;
 
 /// The most milliseconds of a wait.
@@ -47,5 +54,5 @@ pub const MAX_SHORT: usize = 81_920;
 /// The most connections that hold more bytes than [`MAX_SHORT`].
 pub const MAX_LONG: usize = 4;
 
-/// The most bytes of unsent replies, of all connections, with which one more reply is made.
+/// The most bytes of unsent replies and lines, of all connections, with which one more reply is made.
 pub const MAX_UNSENT: usize = 67_108_864;

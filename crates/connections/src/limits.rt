@@ -1,14 +1,15 @@
 //! Limits of time over a whole table: which connections are closed, how long a caller may wait, which one makes room.
 ghost use Rattle.std.specs.Prelude.{◌≡◌, List, Some, None};
 ghost use Rattle.connections.specs.Connections.{AreChanges, Entry};
-ghost use Rattle.connections.specs.Limits.{AreClosed, IsEarliest, IsFirstAfter, IsOneOver, IsVictim};
+ghost use Rattle.connections.specs.Limits.{AreClosed, IsEarliest, IsFirstAfter, IsLatest, IsOneOver, IsVictim};
 ghost use Rattle.connections.specs.inner.Earliest.{first_claim};
 
 use crate::slot::{Claim, Limit, Reason, Slot};
 use crate::table::close;
 use crate::times::sooner;
 
-/// Closes each connection that may be closed for the reason `why`; with [`Reason::Expired`] those over their limits.
+/// Closes each connection that may be closed for the reason `why`; with [`Reason::Expired`] those over their limits,
+/// with [`Reason::Crowded`] slow ones, from the lowest slot on, until no more than `MAX_UNSENT` bytes are unsent.
 pub fn close_all(slots: &mut [Slot], why: Reason)
     ensures { (entries : List Entry) × AreChanges entries slots.old slots.new
         × AreClosed why slots.old entries slots.new }
@@ -18,8 +19,10 @@ pub fn close_all(slots: &mut [Slot], why: Reason)
     }
 }
 
-/// Returns the milliseconds from `now` until a connection is over the limit, or `None` if none will be as they stand.
-/// The result is at most `MAX_WAIT`.
+/// Returns the milliseconds from `now` until a connection whose client was asked is over the limit, if none of these
+/// sends or takes a byte, or `None` if none will be. The result is at most `MAX_WAIT`. A connection is closed only if
+/// its client, asked again at or after that time, still sends or takes nothing: what it did in time is never
+/// overlooked.
 pub fn next_wait(slots: &[Slot], limit: Limit, now: u64) -> Option<u64>
     ensures { IsFirstAfter now (IsOneOver limit slots.now) result }
 {
@@ -30,24 +33,44 @@ pub fn next_wait(slots: &[Slot], limit: Limit, now: u64) -> Option<u64>
     wait
 }
 
-/// Returns the slot of the connection that makes room for another at the time `now`: the one that is idle longest, for
-/// a second at least; if none is, the one whose request is late longest; if none is either, `None`.
-pub fn victim(slots: &[Slot], now: u64) -> Option<usize>
-    ensures { IsVictim now slots.now result }
+/// Returns the slot of the connection that makes room for another: the one that is idle longest, for a second at least;
+/// if none is, the one whose request is late longest; if none is, the one that is longest too slow in taking its reply;
+/// if none is either, `None`.
+pub fn victim(slots: &[Slot]) -> Option<usize>
+    ensures { IsVictim slots.now result }
 {
-    match earliest(slots, Claim::Idle, now) {
+    match earliest(slots, Claim::Idle) {
         Some(at) => Some(at),
-        None => earliest(slots, Claim::Late, now),
+        None => latest(slots),
     }
 }
 
+/// Returns the slot of the connection whose request is late longest; if none is, of the one that is longest too slow in
+/// taking its reply.
+fn latest(slots: &[Slot]) -> Option<usize>
+    ensures { IsLatest slots.now result }
+{
+    match earliest(slots, Claim::Late) {
+        Some(at) => Some(at),
+        None => earliest(slots, Claim::Slow),
+    }
+}
+
+/// Returns the slot of the slowest reader, which may be closed as [`Reason::Crowded`] if more than `MAX_UNSENT` bytes
+/// are unsent; `None` if no reader is too slow.
+pub fn slowest(slots: &[Slot]) -> Option<usize>
+    ensures { IsEarliest Claim.Crowding slots.now result }
+{
+    earliest(slots, Claim::Crowding)
+}
+
 /// Returns the slot of the connection that has the claim longest.
-fn earliest(slots: &[Slot], claim: Claim, now: u64) -> Option<usize>
-    ensures { IsEarliest claim now slots.now result }
+fn earliest(slots: &[Slot], claim: Claim) -> Option<usize>
+    ensures { IsEarliest claim slots.now result }
 {
     let mut best = None;
     for at in 0..slots.len() {
-        best = first_of(best, at, slots[at].claimed_since(claim, now));
+        best = first_of(best, at, slots[at].claimed_since(claim));
     }
     match best {
         Some(found) => Some(found.0),

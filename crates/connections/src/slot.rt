@@ -3,20 +3,21 @@ ghost use Rattle.std.specs.Prelude.{◌≡◌, ◌≤◌, ◌<◌, ◌+◌, ◌-
 ghost use Rattle.std.specs.Prelude.{length, take, drop, vec_len};
 ghost use Rattle.std.specs.Prelude.{IfOk, IsTrue, IsFalse, MatchOption, OnOk, OnErr};
 ghost use Rattle.std.specs.Vec.{vec_capacity};
-ghost use Rattle.connections.specs.Connections.{Came, CutOff, Ended, Logged, Opened, Reserved, Took};
-ghost use Rattle.connections.specs.Connections.{IsChange, IsExpired, IsIdleFor, IsLate, IsOver, MayAnswer, MayRead};
-ghost use Rattle.connections.specs.Connections.{committed, fresh, is_long, uncommitted};
+ghost use Rattle.connections.specs.Connections.{Asked, Came, CutOff, Ended, Logged, Opened, Reserved, Took};
+ghost use Rattle.connections.specs.Connections.{IsChange, IsExpired, IsIdleFor, IsLacking, IsLate, IsOver};
+ghost use Rattle.connections.specs.Connections.{IsOverdue, IsSlow, MayAnswer, MayAsk, MayMakeRoom, MayOffer, MayRead};
+ghost use Rattle.connections.specs.Connections.{committed, fresh, is_long, reply_due, uncommitted, unsent_of};
 ghost use Rattle.connections.specs.Framing.{StaysUnfinished};
-ghost use Rattle.connections.specs.Limits.{HasClaim, IsFirstAfter, claimed, reason_at};
+ghost use Rattle.connections.specs.Limits.{HasClaim, IsDue, IsFirstAfter, claimed};
 ghost use Rattle.connections.specs.Made.{MayClose, MayReadBytes, MayTake, MayTakeSome};
 ghost use Rattle.connections.specs.Steps.{IsIdle, IsTurn};
 
 use crate::logging::Log;
 use crate::service::{Outcome, Service};
-use crate::times::{sooner, until};
+use crate::times::{sooner, until, until_both};
 use crate::{
-    BYTES_PER_MILLI, LINE_ROOM, MAX_READ, MAX_REQUEST, MAX_SHORT, REPLY_ROOM, REQUEST_MILLIS,
-    ROOM_MILLIS,
+    BYTES_PER_MILLI, CROWDED_PER_MILLI, LINE_ROOM, MAX_READ, MAX_REQUEST, MAX_SHORT, REPLY_ROOM,
+    REQUEST_MILLIS, ROOM_MILLIS,
 };
 use std::alloc::{AllocError, Global};
 use std::marker::Model;
@@ -41,17 +42,20 @@ pub enum Stage {
 pub enum Reason {
     /// Its last reply was taken, and that reply or its client ended it.
     Over,
-    /// A read or a write failed.
+    /// A read or a write failed, and such a call may be made.
     Broken,
     /// The log got only a proper prefix of the line of its last reply.
     Unlogged,
     /// The commit of its last reply failed.
     Uncommitted,
-    /// It is over a limit of so many milliseconds, at this time: for so long no byte came or was taken, or its request
-    /// is late.
-    Expired(u64, u64),
-    /// It is idle or its request is late, at this time, and another connection needs its slot.
-    MadeRoom(u64),
+    /// Its client was asked, and is over a limit of so many milliseconds: for so long no byte came or was taken; or its
+    /// request is late; or too few bytes of its reply are taken.
+    Expired(u64),
+    /// Its client was asked, and it is idle, or its request is late, or too few bytes of its reply are taken; and
+    /// another connection needs its slot.
+    MadeRoom,
+    /// Its client was asked, and takes its reply too slowly while more than `MAX_UNSENT` bytes are unsent.
+    Crowded,
 }
 
 /// A limit of time.
@@ -61,15 +65,21 @@ pub enum Limit {
     Expiry(u64),
     /// Another connection needs a slot: one is closed as [`Reason::MadeRoom`].
     Room,
+    /// More than `MAX_UNSENT` bytes are unsent: one is closed as [`Reason::Crowded`].
+    Crowd,
 }
 
-/// Why a connection may make room for another.
+/// Why a connection may be closed before others.
 #[derive(Clone, Copy)]
 pub enum Claim {
     /// It is idle.
     Idle,
     /// Its request is late.
     Late,
+    /// Too few bytes of its reply are taken.
+    Slow,
+    /// Too few bytes of its reply are taken for a table with more than `MAX_UNSENT` unsent bytes.
+    Crowding,
 }
 
 /// A slot for a connection, with its bytes in both directions.
@@ -94,10 +104,18 @@ pub struct Slot {
     needed: usize,
     // The number of bytes for which `input` has memory.
     spare: usize,
-    // The time of the last byte in either direction.
+    // The time of the last byte in either direction, or of the first offer of the last reply if that is later.
     since: u64,
     // The time when the request under way began.
     began: u64,
+    // The number of bytes of the last reply in whole.
+    reply_size: usize,
+    // Whether the last reply was offered to its client, and when first.
+    offered: bool,
+    offered_at: u64,
+    // Whether the client was asked, and sent or took nothing since, and when last.
+    asked: bool,
+    asked_at: u64,
 }
 
 impl Model for Slot {
@@ -120,6 +138,11 @@ impl Model for Slot {
       spare = s.spare;
       since = s.since;
       began = s.began;
+      reply_size = s.reply_size;
+      offered = s.offered;
+      offered_at = s.offered_at;
+      asked = s.asked;
+      asked_at = s.asked_at;
     } };
 
     ghost invariant = { λ s. (s.done ≤ vec_len s.input) × (s.sent ≤ vec_len s.output)
@@ -152,6 +175,11 @@ impl Slot {
             spare: 0,
             since: 0,
             began: 0,
+            reply_size: 0,
+            offered: true,
+            offered_at: 0,
+            asked: false,
+            asked_at: 0,
         })
     }
 
@@ -187,6 +215,11 @@ impl Slot {
         self.spare = 0;
         self.since = now;
         self.began = now;
+        self.reply_size = 0;
+        self.offered = true;
+        self.offered_at = now;
+        self.asked = false;
+        self.asked_at = now;
     }
 
     /// Returns how far the last reply has come.
@@ -249,7 +282,18 @@ impl Slot {
         if self.input.len() - self.done > MAX_REQUEST {
             return false;
         }
+        if !self.is_lacking() {
+            return false;
+        }
         self.may_answer()
+    }
+
+    /// Returns whether the bytes that wait are known to be less than a request.
+    fn is_lacking(&self) -> bool
+        ensures yes { IsTrue result → IsLacking self.now }
+        ensures no { IsFalse result → IsLacking self.now → ⊥ }
+    {
+        self.input.len() == self.done || self.lacks_bytes()
     }
 
     /// Returns whether the connection is over: its last reply was taken, and that reply ended it; or its client ended
@@ -296,12 +340,26 @@ impl Slot {
         }
         match why {
             Reason::Over => self.is_over(),
-            Reason::Broken => self.is_logged(),
+            Reason::Broken => self.may_ask(),
             Reason::Unlogged => self.is_unlogged(),
             Reason::Uncommitted => self.is_uncommitted(),
-            Reason::Expired(idle, now) => self.is_logged() && self.is_expired(idle, now),
-            Reason::MadeRoom(now) => self.is_logged() && self.may_make_room(now),
+            Reason::Expired(idle) => self.is_awaited() && self.is_expired(idle, self.asked_at),
+            Reason::MadeRoom => self.is_awaited() && self.may_make_room(self.asked_at),
+            Reason::Crowded => {
+                self.is_awaited() && self.is_slow(ROOM_MILLIS, CROWDED_PER_MILLI, self.asked_at)
+            }
         }
+    }
+
+    /// Returns whether the last reply may go out, and the client was asked and sent or took nothing.
+    fn is_awaited(&self) -> bool
+        ensures yes { IsTrue result → (self.now.stage ≡ Stage.Logged) × (self.now.asked ≡ true) }
+        ensures no { IsFalse result → (self.now.stage ≡ Stage.Logged) × (self.now.asked ≡ true) → ⊥ }
+    {
+        if !self.asked {
+            return false;
+        }
+        self.is_logged()
     }
 
     /// Returns whether at the time `now` no byte came or was taken for `millis` milliseconds.
@@ -343,6 +401,74 @@ impl Slot {
         REQUEST_MILLIS + more
     }
 
+    /// Returns whether too few bytes of the reply under way are taken at the time `now`: it has `least` milliseconds,
+    /// and one more for each `rate` bytes that are taken.
+    fn is_slow(&self, least: u64, rate: usize, now: u64) -> bool
+        requires { 0 < rate }
+        ensures yes { IsTrue result → IsSlow least rate now self.now }
+        ensures no { IsFalse result → IsSlow least rate now self.now → ⊥ }
+    {
+        if !self.has_offer() {
+            return false;
+        }
+        if now < self.offered_at {
+            return false;
+        }
+        let spent = now - self.offered_at;
+        spent >= least && spent - least >= self.earned(rate)
+    }
+
+    /// Returns whether a reply is under way, and was offered.
+    fn has_offer(&self) -> bool
+        ensures yes { IsTrue result → (self.now.offered ≡ true) × (0 < length self.now.output) }
+        ensures no { IsFalse result → (self.now.offered ≡ true) × (0 < length self.now.output) → ⊥ }
+    {
+        if !self.offered {
+            return false;
+        }
+        self.output.len() > self.sent
+    }
+
+    /// Returns the milliseconds that the bytes of the reply that are taken give it, one for each `rate` bytes.
+    fn earned(&self, rate: usize) -> u64
+        requires { 0 < rate }
+        ensures { result ≡ (self.now.reply_size - length self.now.output) / rate }
+    {
+        (self
+            .reply_size
+            .saturating_sub(self.output.len() - self.sent)
+            / rate) as u64
+    }
+
+    /// Returns the milliseconds from `now` until too few bytes of the reply under way are taken, if there is one.
+    fn wait_slow(&self, least: u64, rate: usize, now: u64) -> Option<u64>
+        requires { 0 < rate }
+        ensures { IsFirstAfter now (λ t. IsSlow least rate t self.now) result }
+    {
+        if !self.has_offer() {
+            return None;
+        }
+        Some(until_both(self.offered_at, least, self.earned(rate), now))
+    }
+
+    /// Returns whether the request under way is late, or too few bytes of the reply under way are taken.
+    fn is_overdue(&self, now: u64) -> bool
+        ensures yes { IsTrue result → IsOverdue now self.now }
+        ensures no { IsFalse result → IsOverdue now self.now → ⊥ }
+    {
+        self.is_late(now) || self.is_slow(REQUEST_MILLIS, BYTES_PER_MILLI, now)
+    }
+
+    /// Returns the milliseconds from `now` until the connection is overdue.
+    fn wait_overdue(&self, now: u64) -> Option<u64>
+        ensures { IsFirstAfter now (λ t. IsOverdue t self.now) result }
+    {
+        sooner(
+            self.wait_late(now),
+            self.wait_slow(REQUEST_MILLIS, BYTES_PER_MILLI, now),
+        )
+    }
+
     /// Returns the milliseconds from `now` until the request under way is late, if there is one.
     fn wait_late(&self, now: u64) -> Option<u64>
         ensures { IsFirstAfter now (λ t. IsLate t self.now) result }
@@ -370,63 +496,87 @@ impl Slot {
         if idle == 0 {
             return None;
         }
-        sooner(Some(until(self.since, idle, now)), self.wait_late(now))
+        sooner(Some(until(self.since, idle, now)), self.wait_overdue(now))
     }
 
     /// Returns the milliseconds from `now` until the connection may make room for another.
     fn wait_room(&self, now: u64) -> Option<u64>
-        ensures { IsFirstAfter now (λ t. IsIdleFor ROOM_MILLIS t self.now ⊎ IsLate t self.now) result }
+        ensures { IsFirstAfter now (λ t. MayMakeRoom t self.now) result }
     {
-        sooner(self.wait_idle(now), self.wait_late(now))
+        sooner(self.wait_idle(now), self.wait_overdue(now))
     }
 
-    /// Returns the milliseconds from `now` until the connection is over the limit, if it will be as it stands.
+    /// Returns the milliseconds from `now` until the connection is over the limit, if its client goes on sending and
+    /// taking nothing. Then it is to be asked again, and closed if it still does.
     pub fn wait(&self, limit: Limit, now: u64) -> Option<u64>
-        ensures { IsFirstAfter now (λ t. MayClose (reason_at limit t) self.now) result }
+        ensures { IsFirstAfter now (λ t. IsDue limit t self.now) result }
     {
         if !self.open {
             return None;
         }
-        if !self.is_logged() {
+        if !self.is_awaited() {
             return None;
         }
         match limit {
             Limit::Expiry(idle) => self.wait_expired(idle, now),
             Limit::Room => self.wait_room(now),
+            Limit::Crowd => self.wait_slow(ROOM_MILLIS, CROWDED_PER_MILLI, now),
         }
     }
 
-    /// Returns the time since which the connection has the claim to make room, if it has it at the time `now`.
-    pub fn claimed_since(&self, claim: Claim, now: u64) -> Option<u64>
-        ensures { MatchOption result (HasClaim claim now self.now → ⊥)
-            (λ time. HasClaim claim now self.now × (time ≡ claimed claim self.now)) }
+    /// Returns the time since which the connection has the claim, if it has it.
+    pub fn claimed_since(&self, claim: Claim) -> Option<u64>
+        ensures { MatchOption result (HasClaim claim self.now → ⊥)
+            (λ time. HasClaim claim self.now × (time ≡ claimed claim self.now)) }
     {
-        if !self.may_close(Reason::MadeRoom(now)) {
-            return None;
-        }
         match claim {
             Claim::Idle => {
-                if !self.is_idle(ROOM_MILLIS, now) {
+                if !self.may_close(Reason::MadeRoom) || !self.is_idle(ROOM_MILLIS, self.asked_at) {
                     return None;
                 }
                 Some(self.since)
             }
             Claim::Late => {
-                if !self.is_late(now) {
+                if !self.may_close(Reason::MadeRoom) || !self.is_late(self.asked_at) {
                     return None;
                 }
                 Some(self.began + self.time_of_request())
             }
+            Claim::Slow => {
+                if !self.may_close(Reason::MadeRoom) {
+                    return None;
+                }
+                self.slow_since(REQUEST_MILLIS, BYTES_PER_MILLI)
+            }
+            Claim::Crowding => {
+                if !self.may_close(Reason::Crowded) {
+                    return None;
+                }
+                self.slow_since(ROOM_MILLIS, CROWDED_PER_MILLI)
+            }
         }
     }
 
+    /// Returns the time since which too few bytes of the reply under way are taken, if that was so when the client was
+    /// asked last.
+    fn slow_since(&self, least: u64, rate: usize) -> Option<u64>
+        requires { 0 < rate }
+        ensures { MatchOption result (IsSlow least rate self.now.asked_at self.now → ⊥)
+            (λ time. IsSlow least rate self.now.asked_at self.now × (time ≡ reply_due least rate self.now)) }
+    {
+        if !self.is_slow(least, rate, self.asked_at) {
+            return None;
+        }
+        Some(self.offered_at + least + self.earned(rate))
+    }
+
     /// Returns whether the connection is over a limit of `idle` milliseconds at the time `now`: for so long no byte
-    /// came or was taken, or a request is late. 0 is no limit.
+    /// came or was taken, or it is overdue. 0 is no limit.
     fn is_expired(&self, idle: u64, now: u64) -> bool
         ensures yes { IsTrue result → IsExpired idle now self.now }
         ensures no { IsFalse result → IsExpired idle now self.now → ⊥ }
     {
-        idle > 0 && (self.is_silent(idle, now) || self.is_late(now))
+        idle > 0 && (self.is_silent(idle, now) || self.is_overdue(now))
     }
 
     /// Returns whether nothing is under way, and at the time `now` no byte came or was taken for `millis` milliseconds.
@@ -453,10 +603,10 @@ impl Slot {
 
     /// Returns whether the connection may make room for another at the time `now`.
     fn may_make_room(&self, now: u64) -> bool
-        ensures yes { IsTrue result → IsIdleFor ROOM_MILLIS now self.now ⊎ IsLate now self.now }
-        ensures no { IsFalse result → IsIdleFor ROOM_MILLIS now self.now ⊎ IsLate now self.now → ⊥ }
+        ensures yes { IsTrue result → MayMakeRoom now self.now }
+        ensures no { IsFalse result → MayMakeRoom now self.now → ⊥ }
     {
-        self.is_idle(ROOM_MILLIS, now) || self.is_late(now)
+        self.is_idle(ROOM_MILLIS, now) || self.is_overdue(now)
     }
 
     /// Returns whether the log got only a proper prefix of the line of the last reply.
@@ -528,16 +678,45 @@ impl Slot {
         self.input.len() - self.done + self.spare > MAX_SHORT
     }
 
-    /// Frees the memory of a long request that is answered.
+    /// Frees the memory of a long request that is answered. Does nothing while one is read, so its bytes are not moved.
     fn free_input(&mut self)
         ensures { self.new ≡ self.old }
     {
-        if self.input.capacity() <= MAX_SHORT {
+        if self.done == 0 || self.input.capacity() <= MAX_SHORT {
             return;
         }
         drop_front(&mut self.input, self.done);
         self.done = 0;
         self.input.shrink_to(self.input.len() + self.spare);
+    }
+
+    /// Frees the memory of a long line that the log got, or is never to get.
+    fn free_line(&mut self)
+        ensures { self.new ≡ self.old }
+    {
+        if self.line.capacity() <= MAX_SHORT || self.line_size() > 0 {
+            return;
+        }
+        self.line.clear();
+        self.line.shrink_to(LINE_ROOM);
+    }
+
+    /// Returns the number of bytes of the line that the log is to get.
+    fn line_size(&self) -> usize
+        ensures { result ≡ length self.now.line }
+    {
+        match self.stage {
+            Stage::Made | Stage::Committed => self.line.len(),
+            Stage::Logged | Stage::Uncommitted | Stage::Unlogged => 0,
+        }
+    }
+
+    /// Returns the number of bytes of the last reply that the writer has not taken, and of the line that the log is to
+    /// get for it.
+    pub fn unsent(&self) -> usize
+        ensures { result ≡ unsent_of self.now }
+    {
+        self.output.len() - self.sent + self.line_size()
     }
 
     /// Frees the memory of a long reply that is taken.
@@ -572,6 +751,7 @@ impl Slot {
             self.began = now;
         }
         self.since = now;
+        self.asked = false;
         self.spare -= bytes.len();
         self.input.extend_from_slice(bytes).unwrap();
     }
@@ -582,6 +762,40 @@ impl Slot {
         ensures { IsChange Ended self.old self.new }
     {
         self.ended = true;
+    }
+
+    /// Returns whether the client may be asked: to send more, or to take more of a reply.
+    pub fn may_ask(&self) -> bool
+        ensures may { IsTrue result → MayAsk self.now }
+        ensures may_not { IsFalse result → MayAsk self.now → ⊥ }
+    {
+        self.may_read() || self.may_offer()
+    }
+
+    /// Returns whether a reply is under way that may go out.
+    fn may_offer(&self) -> bool
+        ensures may { IsTrue result → MayOffer self.now }
+        ensures may_not { IsFalse result → MayOffer self.now → ⊥ }
+    {
+        if !self.may_take() {
+            return false;
+        }
+        self.output.len() > self.sent
+    }
+
+    /// Notes that the client was asked at the time `now`, and sent or took nothing.
+    pub fn ask(&mut self, now: u64)
+        requires { MayAsk self.old }
+        ensures { IsChange (Asked now) self.old self.new }
+    {
+        if !self.offered {
+            self.since = now;
+            self.began = now;
+            self.offered_at = now;
+        }
+        self.offered = true;
+        self.asked = true;
+        self.asked_at = now;
     }
 
     /// Answers the request at the front of the input if it is whole and one may be answered; returns whether it did.
@@ -608,6 +822,9 @@ impl Slot {
                 self.stage = Stage::Made;
                 self.needed = 0;
                 self.began = self.since;
+                self.reply_size = self.output.len();
+                self.offered = false;
+                self.asked = false;
                 true
             }
             Outcome::Unfinished(needed) => {
@@ -622,10 +839,12 @@ impl Slot {
         ensures { self.new ≡ committed self.old }
     {
         match self.stage {
-            Stage::Made => self.stage = Stage::Committed,
+            Stage::Made => {
+                self.stage = Stage::Committed;
+                self.free_input();
+            }
             Stage::Committed | Stage::Logged | Stage::Uncommitted | Stage::Unlogged => {}
         }
-        self.free_input();
     }
 
     /// Notes that the service failed to commit its replies.
@@ -633,7 +852,10 @@ impl Slot {
         ensures { self.new ≡ uncommitted self.old }
     {
         match self.stage {
-            Stage::Made => self.stage = Stage::Uncommitted,
+            Stage::Made => {
+                self.stage = Stage::Uncommitted;
+                self.free_line();
+            }
             Stage::Committed | Stage::Logged | Stage::Uncommitted | Stage::Unlogged => {}
         }
     }
@@ -659,10 +881,12 @@ impl Slot {
         match log.write_line(self.line.as_slice()) {
             Ok(()) => {
                 self.stage = Stage::Logged;
+                self.free_line();
                 true
             }
             Err(_) => {
                 self.stage = Stage::Unlogged;
+                self.free_line();
                 false
             }
         }
@@ -702,6 +926,11 @@ impl Slot {
         self.sent += count.min(left);
         self.since = now;
         self.began = now;
+        if !self.offered {
+            self.offered_at = now;
+        }
+        self.offered = true;
+        self.asked = false;
         self.free_output();
     }
 
@@ -710,8 +939,9 @@ impl Slot {
         ensures { self.new ≡ fresh false 0 }
     {
         self.clear(false, 0);
-        self.free_input();
+        self.input.shrink_to(0);
         self.free_output();
+        self.free_line();
     }
 }
 

@@ -1,12 +1,14 @@
 //! A table of connections over one service and one log: the slots of a slice.
 ghost use Rattle.std.specs.Prelude.{◌≡◌, ◌≤◌, ◌<◌, ◌↔◌, ℕ, Bool, List, [], length, map, take, Some, slice_get};
 ghost use Rattle.std.specs.Prelude.{IfOk, IsTrue, IsFalse, OnErr};
-ghost use Rattle.connections.specs.Connections.{Answered, Came, Ended, Gone, Opened, Reserved, Took};
-ghost use Rattle.connections.specs.Connections.{AreChanges, ChangesAt, Connection, Entry, HasRoom, MayRead};
+ghost use Rattle.connections.specs.Connections.{Answered, Asked, Came, Ended, Gone, Opened, Reserved, Took};
+ghost use Rattle.connections.specs.Connections.{AreChanges, ChangesAt, Connection, Entry, HasRoom, IsCalledFor};
+ghost use Rattle.connections.specs.Connections.{MayAsk, MayRead};
 ghost use Rattle.connections.specs.Connections.{committed, is_long, longs, uncommitted, unsent};
-ghost use Rattle.connections.specs.Made.{IsFree, IsMade, IsNoneAt, MayClose, MayReadBytes, MayReserve, MayTakeSome};
-ghost use Rattle.connections.specs.Rounds.{AreAll, AreNeeded, AreReady, AreSettled, IsALack, IsALine, IsATurn};
-ghost use Rattle.connections.specs.Rounds.{IsOrdered, IsQuiet, IsRound};
+ghost use Rattle.connections.specs.Made.{IsFree, IsMade, IsNoneAt, MayEnd, MayReadBytes, MayReserve, MayTakeSome};
+ghost use Rattle.connections.specs.Rounds.{AreAll, AreLacking, AreNeeded, AreReady};
+ghost use Rattle.connections.specs.Rounds.{AreSettled, IsALack, IsALine, IsATurn};
+ghost use Rattle.connections.specs.Rounds.{IsOrdered, IsQuiet, IsRound, next_slot};
 ghost use Rattle.connections.specs.Steps.{AreLogged, IsChain, Leads, Notes, Steps, StepsAt};
 ghost use Rattle.connections.specs.Stories.{AreFree};
 ghost use Rattle.connections.specs.inner.Turns.{IsIdleAt};
@@ -34,9 +36,17 @@ pub enum Outcome {
 pub struct Rounded {
     /// What it did.
     pub outcome: Outcome,
-    /// The slot at which it stopped, and the next round is to begin, since too many bytes of replies are unsent; or the
-    /// number of slots.
+    /// The slot at which it stopped, since too many bytes of replies and lines are unsent; or the number of slots.
     pub end: usize,
+}
+
+impl Rounded {
+    /// Returns the slot at which the next round is to begin.
+    pub fn next(&self, slots: &[Slot]) -> usize
+        ensures { result ≡ next_slot self.now.end (length slots.now) }
+    {
+        if self.end < slots.len() { self.end } else { 0 }
+    }
 }
 
 /// The requests of a round that were answered.
@@ -130,14 +140,14 @@ fn count_longs(slots: &[Slot]) -> usize
     slots.iter().filter(|slot| slot.is_long()).count()
 }
 
-/// Returns whether more than `MAX_UNSENT` bytes of replies are unsent.
-fn is_full(slots: &[Slot]) -> bool
+/// Returns whether more than `MAX_UNSENT` bytes of replies and lines are unsent.
+pub fn is_full(slots: &[Slot]) -> bool
     ensures yes { IsTrue result → MAX_UNSENT < unsent slots.now }
     ensures no { IsFalse result → unsent slots.now ≤ MAX_UNSENT }
 {
     let mut left = MAX_UNSENT;
     for slot in slots {
-        let size = slot.output().len();
+        let size = slot.unsent();
         if size > left {
             return true;
         }
@@ -177,6 +187,22 @@ pub fn end(slots: &mut [Slot], at: usize) -> bool
     true
 }
 
+/// Notes that the client at the slot `at` was asked at the time `now`, and sent or took nothing; returns whether its
+/// connection may be read from, or has a reply under way that may go out.
+pub fn ask(slots: &mut [Slot], at: usize, now: u64) -> bool
+    ensures { IsMade result at (Asked now) MayAsk slots.old slots.new }
+{
+    if at >= slots.len() {
+        return false;
+    }
+    let slot = &mut slots[at];
+    if !slot.may_ask() {
+        return false;
+    }
+    slot.ask(now);
+    true
+}
+
 /// Notes that the writer at the slot `at` took the first `count` bytes of the reply, or all if there are fewer, at the
 /// time `now`; returns whether it took any.
 pub fn take(slots: &mut [Slot], at: usize, count: usize, now: u64) -> bool
@@ -195,11 +221,30 @@ pub fn take(slots: &mut [Slot], at: usize, count: usize, now: u64) -> bool
     true
 }
 
+/// Returns whether the table gives the reason `why` to close a connection.
+fn is_called_for(slots: &[Slot], why: Reason) -> bool
+    ensures yes { IsTrue result → IsCalledFor why slots.now }
+    ensures no { IsFalse result → IsCalledFor why slots.now → ⊥ }
+{
+    match why {
+        Reason::Crowded => is_full(slots),
+        Reason::Over
+        | Reason::Broken
+        | Reason::Unlogged
+        | Reason::Uncommitted
+        | Reason::Expired(_)
+        | Reason::MadeRoom => true,
+    }
+}
+
 /// Closes the connection at the slot `at` for the reason `why`; returns whether one is there that this is true of.
 pub fn close(slots: &mut [Slot], at: usize, why: Reason) -> bool
-    ensures { IsMade result at (Gone why) (MayClose why) slots.old slots.new }
+    ensures { IsMade result at (Gone why) (MayEnd why slots.old) slots.old slots.new }
 {
     if at >= slots.len() {
+        return false;
+    }
+    if !is_called_for(slots, why) {
         return false;
     }
     let slot = &mut slots[at];
@@ -239,7 +284,8 @@ fn answer_all<S: Service>(slots: &mut [Slot], from: usize, service: &mut S) -> T
     ensures made { AreMadeOrSettled slots.new }
     ensures needs { AreNeeded S.is_unfinished slots.new }
     ensures settled { IsFalse result.any → AreSettled slots.new }
-    ensures quiet { IsFalse result.any → from ≡ 0 → result.end ≡ length slots.new → IsQuiet S.is_unfinished slots.new }
+    ensures quiet { IsFalse result.any → from ≡ 0 → result.end ≡ length slots.new
+        → IsQuiet S.is_unfinished slots.new × AreLacking slots.new }
 {
     let mut any = false;
     let mut full = is_full(slots);
@@ -305,7 +351,7 @@ fn log_all<L: Log>(slots: &mut [Slot], log: &mut L)
 /// Answers one request of each connection, from the slot `from` on, that has a whole one, and whose last reply was
 /// taken; then commits the replies, and writes their lines to the log. If the commit fails, the log gets no line, and
 /// nothing of these replies goes out; if a line is cut off, nothing of its reply goes out. Stops at the slot at which
-/// more than `MAX_UNSENT` bytes of replies are unsent.
+/// more than `MAX_UNSENT` bytes of replies and lines are unsent.
 pub fn round<S: Service, L: Log>(
     slots: &mut [Slot],
     from: usize,
@@ -319,7 +365,7 @@ pub fn round<S: Service, L: Log>(
         × IsOrdered result.outcome entries × IsRound S.is_unfinished from result.end slots.old entries }
     ensures ready { AreReady S.is_unfinished slots.new }
     ensures quiet { result.outcome ≡ Outcome.Quiet → from ≡ 0 → result.end ≡ length slots.new
-        → IsQuiet S.is_unfinished slots.new }
+        → IsQuiet S.is_unfinished slots.new × AreLacking slots.new }
 {
     let turns = answer_all(slots, from, service);
     let end = turns.end;

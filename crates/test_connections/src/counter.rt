@@ -54,7 +54,7 @@ impl Service for Counter {
         let byte = bytes[1];
         self.answered = self.answered.wrapping_add(1);
         put(out, &[byte, b'0'.wrapping_add(self.answered)]);
-        put(line, &[byte]);
+        put(line, &[byte, b';']);
         Outcome::Answered(2, command == b'q')
     }
 

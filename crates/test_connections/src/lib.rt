@@ -3,10 +3,12 @@
 #![tactic(auto)]
 
 mod counter;
+mod hungry;
 mod lines;
 mod places;
 
 pub use counter::Counter;
+pub use hungry::Hungry;
 pub use lines::Lines;
 pub use places::{event_of, play, ready_table};
 

@@ -8,7 +8,7 @@ use std::alloc::Global;
 #[derive(Drop)]
 pub struct Lines {
     text: Vec<u8>,
-    /// The number of lines before those that are cut off.
+    /// The number of lines before those that are cut off, each after its first byte.
     left: usize,
 }
 
@@ -18,6 +18,14 @@ impl Lines {
         Lines {
             text: Vec::new(alloc),
             left,
+        }
+    }
+
+    /// Appends bytes; returns whether memory sufficed.
+    fn put(&mut self, bytes: &[u8]) -> bool {
+        match self.text.extend_from_slice(bytes) {
+            Ok(()) => true,
+            Err(_) => false,
         }
     }
 
@@ -34,12 +42,14 @@ impl Log for Lines {
 
     fn write_line(&mut self, line: &[u8]) -> Result<(), LineCutOff> {
         if self.left == 0 {
+            self.put(&line[..line.len().min(1)]);
             return Err(LineCutOff);
         }
         self.left -= 1;
-        match self.text.extend_from_slice(line) {
-            Ok(()) => Ok(()),
-            Err(_) => Err(LineCutOff),
+        if self.put(line) {
+            Ok(())
+        } else {
+            Err(LineCutOff)
         }
     }
 }

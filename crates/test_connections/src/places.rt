@@ -5,7 +5,7 @@ ghost use Rattle.test_connections.specs.Pairs.{IsLess};
 
 use crate::counter::Counter;
 use crate::lines::Lines;
-use connections::event::{Event, handle};
+use connections::event::{Event, run};
 use connections::laws::tables_are_ready;
 use connections::slot::{Reason, Slot};
 use connections::table::new_table;
@@ -31,42 +31,45 @@ pub fn event_of(alloc: Global, code: &[u8]) -> Result<Event, AllocError>
         b'o' => Event::Accepted(at, now),
         b'r' => Event::Readied(at),
         b'f' => Event::Finished(at),
+        b'w' => Event::Waited(at, now),
         b'>' => Event::Writable(at, byte.wrapping_sub(b'0') as usize, now),
         b'*' => Event::Writable(at, usize::MAX, now),
         b'c' => Event::Closed(at, Reason::Over),
         b'O' => Event::ClosedAll(Reason::Over),
         b'C' => Event::ClosedAll(Reason::Uncommitted),
         b'L' => Event::ClosedAll(Reason::Unlogged),
-        b'E' => Event::ClosedAll(Reason::Expired(5_000, now)),
+        b'E' => Event::ClosedAll(Reason::Expired(5_000)),
+        b'R' => Event::ClosedAll(Reason::MadeRoom),
+        b'K' => Event::ClosedAll(Reason::Crowded),
         b'.' => Event::Round(at),
-        _ => return arrived(alloc, at, byte, now),
+        b'=' => return arrived(alloc, at, &[b'e', byte], now),
+        b'q' => return arrived(alloc, at, &[b'q', byte], now),
+        b'2' => return arrived(alloc, at, &[b'e', byte, b'e', byte.wrapping_add(1)], now),
+        _ => return arrived(alloc, at, &[byte], now),
     };
     Ok(event)
 }
 
-/// Returns the event of one byte that came.
-fn arrived(alloc: Global, at: usize, byte: u8, now: u64) -> Result<Event, AllocError> {
-    let bytes = Vec::from_slice(alloc, &[byte])?;
+/// Returns the event of bytes that came.
+fn arrived(alloc: Global, at: usize, bytes: &[u8], now: u64) -> Result<Event, AllocError> {
+    let bytes = Vec::from_slice(alloc, bytes)?;
     Ok(Event::Arrived(at, bytes, now))
 }
 
-/// Handles the event of four bytes.
-fn play_one(
-    alloc: Global,
-    slots: &mut [Slot],
-    service: &mut Counter,
-    log: &mut Lines,
-    code: &[u8],
-) -> Result<(), AllocError>
-    requires code { 4 ≤ length code.now }
-    requires ready { AreReady IsLess slots.old }
-    ensures { AreReady IsLess slots.new }
-{
-    let event = event_of(alloc, code)?;
-    handle(slots, service, log, &event)
+/// Returns the events of a script, four bytes each.
+fn events_of(alloc: Global, script: &[u8]) -> Result<Vec<Event>, AllocError> {
+    let mut events = Vec::new(alloc);
+    for code in script.chunks_exact(4) {
+        let event = event_of(alloc, code)?;
+        match events.push(event) {
+            Ok(()) => {}
+            Err(_) => return Err(AllocError),
+        }
+    }
+    Ok(events)
 }
 
-/// Handles the events of a script, four bytes each.
+/// Handles the events of a script.
 pub fn play(
     alloc: Global,
     slots: &mut [Slot],
@@ -77,8 +80,6 @@ pub fn play(
     requires { AreReady IsLess slots.old }
     ensures { AreReady IsLess slots.new }
 {
-    for code in script.chunks_exact(4) {
-        play_one(alloc, slots, service, log, code)?;
-    }
-    Ok(())
+    let events = events_of(alloc, script)?;
+    run(slots, service, log, &events)
 }

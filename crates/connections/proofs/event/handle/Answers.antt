@@ -1,6 +1,6 @@
 use Rattle.std.proofs.Common.{refl, sym, subst, List, ℕ}
-use Rattle.connections.specs.Connections.{Opened, Reserved, Came, Ended, Gone, MayRead}
-use Rattle.connections.specs.Made.{IsFree, IsMade, MayClose, MayReadBytes, MayReserve}
+use Rattle.connections.specs.Connections.{Opened, Reserved, Came, Ended, Asked, Gone, MayAsk, MayRead}
+use Rattle.connections.specs.Made.{IsFree, IsMade, MayEnd, MayReadBytes, MayReserve}
 use Rattle.connections.specs.Runs.{IsCause}
 use Rattle.connections.specs.Steps.{Notes, Steps}
 use Rattle.connections.specs.declared.event.Event.{Event}
@@ -49,6 +49,16 @@ pub returns-in-Finished-clause-ready : goal.returns-in-Finished-clause-ready
 returns-in-Finished-clause-ready g c =
     made_ready g.S.Service.is_unfinished c.tables_are_ready.ensures c.end.result c.in-Finished.at Ended MayRead c.args.slots.now c.end.new.slots (λ n. n) c.end.ensures c.requires
 
+pub returns-in-Waited-clause-ok : goal.returns-in-Waited-clause-ok
+returns-in-Waited-clause-ok g c =
+    let s = g.S.Service in
+    let x = made (Steps s.answers s.lines s.commits s.commit_fails) (Notes g.L.Log.writes g.L.Log.cuts) c.args.slots.now c.ask.new.slots c.args.service.now c.args.log.now c.in-Waited.at (Asked c.in-Waited.now) MayAsk c.ask.result refl refl refl c.ask.ensures in
+    record { entries = x.0; leads = x.1; cause = subst (λ (e : Event). IsCause s.is_unfinished e c.args.slots.now x.0 c.ask.new.slots) (sym c.in-Waited.is) x.2 }
+
+pub returns-in-Waited-clause-ready : goal.returns-in-Waited-clause-ready
+returns-in-Waited-clause-ready g c =
+    made_ready g.S.Service.is_unfinished c.tables_are_ready.ensures c.ask.result c.in-Waited.at (Asked c.in-Waited.now) MayAsk c.args.slots.now c.ask.new.slots (λ n. n) c.ask.ensures c.requires
+
 pub returns-in-Writable-clause-ok : goal.returns-in-Writable-clause-ok
 returns-in-Writable-clause-ok g c =
     let s = g.S.Service in
@@ -62,12 +72,12 @@ returns-in-Writable-clause-ready g c =
 pub returns-in-Closed-clause-ok : goal.returns-in-Closed-clause-ok
 returns-in-Closed-clause-ok g c =
     let s = g.S.Service in
-    let x = made (Steps s.answers s.lines s.commits s.commit_fails) (Notes g.L.Log.writes g.L.Log.cuts) c.args.slots.now c.close.new.slots c.args.service.now c.args.log.now c.in-Closed.at (Gone c.in-Closed.why) (MayClose c.in-Closed.why) c.close.result refl refl refl c.close.ensures in
+    let x = made (Steps s.answers s.lines s.commits s.commit_fails) (Notes g.L.Log.writes g.L.Log.cuts) c.args.slots.now c.close.new.slots c.args.service.now c.args.log.now c.in-Closed.at (Gone c.in-Closed.why) (MayEnd c.in-Closed.why c.args.slots.now) c.close.result refl refl refl c.close.ensures in
     record { entries = x.0; leads = x.1; cause = subst (λ (e : Event). IsCause s.is_unfinished e c.args.slots.now x.0 c.close.new.slots) (sym c.in-Closed.is) x.2 }
 
 pub returns-in-Closed-clause-ready : goal.returns-in-Closed-clause-ready
 returns-in-Closed-clause-ready g c =
-    made_ready g.S.Service.is_unfinished c.tables_are_ready.ensures c.close.result c.in-Closed.at (Gone c.in-Closed.why) (MayClose c.in-Closed.why) c.args.slots.now c.close.new.slots (λ n. n) c.close.ensures c.requires
+    made_ready g.S.Service.is_unfinished c.tables_are_ready.ensures c.close.result c.in-Closed.at (Gone c.in-Closed.why) (MayEnd c.in-Closed.why c.args.slots.now) c.args.slots.now c.close.new.slots (λ n. n) c.close.ensures c.requires
 
 pub returns-in-Round-clause-ok : goal.returns-in-Round-clause-ok
 returns-in-Round-clause-ok g c =

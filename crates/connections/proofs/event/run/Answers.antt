@@ -1,4 +1,4 @@
-use Rattle.std.proofs.Common.{◌++◌, ◌∷◌, [], List, take, drop, sym, ap, subst, ◌∙◌, Ok, Err}
+use Rattle.std.proofs.Common.{◌+◌, append_assoc, get_or, ◌++◌, ◌∷◌, [], List, take, drop, sym, ap, subst, ◌∙◌, Ok, Err}
 use Rattle.std.specs.Prelude.{Result, OnErr}
 use Rattle.std.proofs.lemmas.List.{take_more, take-append-drop}
 use Rattle.connections.specs.Connections.{Connection}
@@ -44,10 +44,15 @@ returns-in_err-handle-clause-err g c =
     let i = c.loop-event.event-index in
     let events : List Event = c.args.events.now in
     let same = c.in_err-handle.ensures.err in
+    let reading = c.in_err-handle.ensures.reading in
     on_err c.from_residual.result (
       take i events,
-      drop i events,
-      sym (take-append-drop i events),
+      drop (i + 1) events,
+      reading.0,
+      sym (take-append-drop (i + 1) events)
+          ∙ ap (λ (t : List Event). t ++ drop (i + 1) events) (take_more events i c.event-item.result c.loop-event-test.true)
+          ∙ append_assoc (take i events) (get_or events i c.event-item.result ∷ []) (drop (i + 1) events)
+          ∙ ap (λ (e : Event). take i events ++ e ∷ drop (i + 1) events) (sym c.event-item.is ∙ reading.1),
       subst (λ (t : List Connection). IsServed (Steps s.answers s.lines s.commits s.commit_fails) (Notes g.L.Log.writes g.L.Log.cuts) s.is_unfinished (take i events)
           c.args.slots.now c.args.service.now c.args.log.now t c.handle.new.service c.handle.new.log) (sym same.0)
           (subst (λ t. IsServed (Steps s.answers s.lines s.commits s.commit_fails) (Notes g.L.Log.writes g.L.Log.cuts) s.is_unfinished (take i events)

@@ -1,4 +1,4 @@
-use Rattle.std.proofs.Common.{◌≡◌, ◌≤◌, ◌<◌, ◌+◌, ◌⊎◌, ◌∙◌, Bool, false, inl, inr, sym, subst, length, arith}
+use Rattle.std.proofs.Common.{◌≡◌, ◌≤◌, ◌<◌, ◌+◌, ◌⊎◌, ◌∙◌, Bool, false, inl, inr, refl, sym, subst, length, arith}
 use Rattle.std.specs.Prelude.{IsTrue, IsFalse}
 use Rattle.std.proofs.lemmas.Bool.{cases_lt}
 use Rattle.connections.proofs.RoundLemmas.{SoFar, start, idle_turn, idle_unsent, answered, quiet, rounded}
@@ -41,7 +41,7 @@ loop-at-preserved g c =
           }
       | else-turn_at w ↦
           let idle = c.turn_at.ensures.idle w.if-turn_at.false in
-          let next = idle_turn s.answers s.lines s.commits s.commit_fails s.is_unfinished c.args.from table old c.loop-at.at c.loop-at.any c.loop-at.slots c.turn_at.new.slots c.loop-at.service idle.0.0 was.so idle.0.1 in
+          let next = idle_turn s.answers s.lines s.commits s.commit_fails s.is_unfinished c.args.from table old c.loop-at.at c.loop-at.auto.at c.loop-at.any c.loop-at.slots c.turn_at.new.slots c.loop-at.service idle.0.0 was.so idle.0.1 in
           record {
             so = subst (λ (b : Bool). SoFar s.answers s.lines s.commits s.commit_fails s.is_unfinished c.args.from table old (c.loop-at.at + 1) b c.turn_at.new.slots c.turn_at.new.service) (sym w.any-is)
                 (subst (λ t. SoFar s.answers s.lines s.commits s.commit_fails s.is_unfinished c.args.from table old (c.loop-at.at + 1) c.loop-at.any c.turn_at.new.slots t) (sym idle.1) next);
@@ -62,7 +62,7 @@ returns-then-full-clause-turns g c =
       so.chain,
       so.all,
       rounded s.answers s.lines s.commits s.commit_fails s.is_unfinished c.args.from c.args.slots.now c.args.service.now at at c.loop-at.any c.loop-at.slots c.loop-at.service so (omega arith) (λ k beyond. inr beyond)
-          (inr (omega (arith, c.loop-at-test.true), c.loop-at.invariant.full c.if-full.true)),
+          (inr (refl, omega (arith, c.loop-at-test.true), c.loop-at.invariant.full c.if-full.true)),
       so.logged,
       λ idle. (so.idle idle).0,
       so.busy,

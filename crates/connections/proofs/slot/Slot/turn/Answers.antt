@@ -1,4 +1,4 @@
-use Rattle.std.proofs.Common.{◌≡◌, ◌≤◌, ◌<◌, ◌+◌, ◌-◌, ◌++◌, ℕ, List, [], length, take, drop, refl, sym, ap, ◌∙◌, subst, inl, inr, append-nil, arith}
+use Rattle.std.proofs.Common.{◌≡◌, ◌≤◌, ◌<◌, ◌+◌, ◌-◌, ◌++◌, ℕ, Bool, List, [], length, take, drop, false, refl, sym, ap, ◌∙◌, subst, inl, inr, append-nil, arith}
 use Rattle.std.proofs.lemmas.List.{drop-drop, length-take-le, take-append-drop, take_rest}
 use Rattle.connections.specs.Connections.{Connection, kept}
 use Rattle.connections.specs.Framing.{StaysUnfinished}
@@ -12,6 +12,21 @@ unfinished_now : (is_unfinished : List ℕ → Type 0) (bytes : List ℕ) (neede
 unfinished_now is_unfinished bytes needed stays less =
     subst is_unfinished (append-nil bytes) (stays [] (subst (λ (t : List ℕ). length t < needed) (sym (append-nil bytes)) less))
 
+-- a connection after an answer, where the reply has `n` bytes
+abbrev after : Bool → List ℕ → List ℕ → List ℕ → ℕ → Connection → Connection
+after closes input reply line n a = record a {
+  closing = closes;
+  stage = Stages.Made;
+  input = input;
+  output = reply;
+  line = line;
+  needed = 0;
+  began = a.since;
+  reply_size = n;
+  offered = false;
+  asked = false;
+}
+
 pub returns-in-Answered-clause-answered : goal.returns-in-Answered-clause-answered
 returns-in-Answered-clause-answered g c _ =
     let items : List ℕ = c.self.inside.input.items in
@@ -22,6 +37,8 @@ returns-in-Answered-clause-answered g c _ =
     let some : size ≤ length (drop done items) = subst (λ (t : List ℕ). size ≤ length t) rest c.in-Answered.ensures.answer.1 in
     let whole : drop done items ≡ take size (drop done items) ++ drop (done + size) items =
     sym (take-append-drop size (drop done items)) ∙ ap (λ (t : List ℕ). take size (drop done items) ++ t) (drop-drop size done items) in
+    let reply_size : c.len-self-inside.result ≡ length c.answer.new.out.items =
+    omega (arith, c.len-self-inside.ensures, c.answer.new.out.ok.0) in
     let long : length (take size (drop done items)) ≡ size = length-take-le size (drop done items) some in
     record {
       request = take size (drop done items);
@@ -36,27 +53,26 @@ returns-in-Answered-clause-answered g c _ =
         c.if-not-may_answer.ensures.may refl,
         omega (arith, long, c.in-Answered.ensures.answer.0),
         sym (ap (λ (a : Connection). a.input) c.self.view_is) ∙ whole,
-        ap (λ (a : Connection). record a {
-          closing = c.in-Answered.closes;
-          stage = Stages.Made;
-          input = drop (done + size) items;
-          output = c.answer.new.out.items;
-          line = c.answer.new.line.items;
-          needed = 0;
-          began = a.since;
-        }) c.self.view_is,
+        ap (after c.in-Answered.closes (drop (done + size) items) c.answer.new.out.items c.answer.new.line.items c.len-self-inside.result) c.self.view_is
+            ∙ ap (λ (n : ℕ). after c.in-Answered.closes (drop (done + size) items) c.answer.new.out.items c.answer.new.line.items n c.args.self.now)
+            reply_size,
       );
     }
 
 pub returns-then-not-may_answer-clause-idle : goal.returns-then-not-may_answer-clause-idle
-returns-then-not-may_answer-clause-idle g c _ =
-    (record { none = λ may. absurd (c.if-not-may_answer.ensures.may_not refl may); change = inl refl }, refl)
+returns-then-not-may_answer-clause-idle g c _ = (
+  record {
+    none = λ may. absurd (c.if-not-may_answer.ensures.may_not refl may);
+    change = inl (refl, λ may. absurd (c.if-not-may_answer.ensures.may_not refl may));
+  },
+  refl,
+)
 
 pub returns-then-lacks_bytes-clause-idle : goal.returns-then-lacks_bytes-clause-idle
 returns-then-lacks_bytes-clause-idle g c _ =
     let a : Connection = c.args.self.now in
     let less : length a.input < a.needed = c.if-lacks_bytes.ensures.yes refl in
-    (record { none = λ _. unfinished_now g.S.Service.is_unfinished a.input a.needed c.requires less; change = inl refl }, refl)
+    (record { none = λ _. unfinished_now g.S.Service.is_unfinished a.input a.needed c.requires less; change = inl (refl, λ _. less) }, refl)
 
 pub returns-in-Unfinished-clause-idle : goal.returns-in-Unfinished-clause-idle
 returns-in-Unfinished-clause-idle g c _ =

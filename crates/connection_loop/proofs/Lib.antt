@@ -1,0 +1,5 @@
+pub mod LoopLemmas
+pub mod SlotLemmas
+pub mod GoesLemmas
+pub mod WaitLemmas
+pub mod ServedLemmas
