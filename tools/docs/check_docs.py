@@ -8,7 +8,7 @@
 - docs/proved.md has, in bold, exactly the crates of crates.txt that are not tests, and each law by its name; each name in the
   first column of a table of laws is a law.
 - docs/definitions.md, docs/surface.md and the numbers of docs/reading.md are what tools/docs/made_docs.py makes of the sources.
-- The promises of systems of sites or the contract of the whole program rest on each of the twelve files of docs/reading.md.
+- The promises of systems of sites or the contract of the whole program rest on each of the fourteen files of docs/reading.md.
 - Each file of docs/, bench/, tools/, examples/, tests/ and of a crate's src/, specs/ and proofs/ that a document names by its path exists. Under a heading
   that names crates, so does each path that begins with specs/, proofs/, src/, must-fail/ or mutants/, in one of these crates.
 - README.md has the numbers of crates of the two programs, docs/proving.md that of all crates. tools/gate/last_run.md has the number of

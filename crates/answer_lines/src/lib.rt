@@ -2,9 +2,11 @@
 #![tactic(auto)]
 
 mod lines;
+mod place;
 mod refusal;
 
 pub use lines::answer_line;
+pub use place::Place;
 pub use refusal::{Refusal, error_line};
 
 // of lower layers

@@ -2,9 +2,11 @@
 ghost use Rattle.std.specs.Prelude.{◌≡◌, IfOk};
 ghost use Rattle.serde_json.specs.Data.{put as with_member};
 ghost use Rattle.serde_json.specs.View.{view, members_view};
-ghost use Rattle.answer_lines.specs.Refusals.{no_memory, bad_shape, error_placed_at, number_or_null, refusal_json};
-ghost use Rattle.answer_lines.specs.Refusals.{error_line};
+ghost use Rattle.answer_lines.specs.Refusals.{number_in};
+ghost use Rattle.answer_lines.specs.Refusals.{no_memory, bad_shape, error_placed_at, number_or_null, parts_json};
+ghost use Rattle.answer_lines.specs.Refusals.{refusal_json, error_line};
 
+use crate::place::Place;
 use json_words::write_json;
 use plain::{NoMemory, pair_with};
 use serde_json::{Map, Value, put};
@@ -17,9 +19,8 @@ use thiserror::Error;
 pub struct Refusal {
     /// The code: 1 for `NoMemory`, else that of the error (docs/codes.md).
     pub code: u8,
-    /// The place of the error, counted from 0: a byte offset or an index, as docs/codes.md says for each code. `None`
-    /// if the error has no place.
-    pub place: Option<usize>,
+    /// The place of the error; `None` if the error has no place.
+    pub place: Option<Place>,
     /// The code of the inner error, if the error has one (docs/codes.md).
     pub within: Option<u8>,
 }
@@ -61,28 +62,38 @@ impl Refusal {
     }
 
     /// Returns the error (30) of a text that is not JSON of the demanded form, or of an entity whose uid an earlier one
-    /// has. `place` is the index of the rejected entity in its array, or `None` if the whole text is rejected.
-    pub fn bad_shape(place: Option<usize>) -> Refusal
-        ensures { result ≡ bad_shape place }
+    /// has. `index` is that of the rejected entity in its array, or `None` if the whole text is rejected.
+    pub fn bad_shape(index: Option<usize>) -> Refusal
+        ensures { result ≡ bad_shape index }
     {
         Refusal {
             code: 30,
-            place,
+            place: index.map(Place::Index),
             within: None,
         }
     }
 
-    /// Returns this error with `place` as its place; an error with code 1 (out of memory) is unchanged.
-    pub fn error_placed_at(self, place: usize) -> Refusal
-        ensures { result ≡ error_placed_at place self }
+    /// Returns this error with `index` as its place; an error with code 1 (out of memory) is unchanged.
+    pub fn error_placed_at(self, index: usize) -> Refusal
+        ensures { result ≡ error_placed_at index self }
     {
         if self.code == 1 {
             return self;
         }
         Refusal {
             code: self.code,
-            place: Some(place),
+            place: Some(Place::Index(index)),
             within: self.within,
+        }
+    }
+
+    /// Returns the number of this error's place, or `None` if it has no place.
+    pub fn place_number(self) -> Option<usize>
+        ensures { result ≡ number_in self.place }
+    {
+        match self.place {
+            Some(place) => Some(place.number()),
+            None => None,
         }
     }
 }
@@ -120,7 +131,7 @@ fn parts_value(
     place: Option<u64>,
     within: Option<u64>,
 ) -> Result<Value, NoMemory>
-    ensures { IfOk result (λ v. view v ≡ refusal_json (record { code = code; place = place; within = within })) }
+    ensures { IfOk result (λ v. view v ≡ parts_json code place within) }
 {
     let members = with_value(alloc, Map::new(alloc), "code", number_or_null(Some(code)))?;
     let members = with_value(alloc, members, "place", number_or_null(place))?;
@@ -133,7 +144,7 @@ fn parts_value(
 fn refusal_value(alloc: Global, refusal: Refusal) -> Result<Value, NoMemory>
     ensures { IfOk result (λ v. view v ≡ refusal_json refusal) }
 {
-    let place = refusal.place.map(|place| place as u64);
+    let place = refusal.place_number().map(|place| place as u64);
     let within = refusal.within.map(u64::from);
     parts_value(alloc, u64::from(refusal.code), place, within)
 }

@@ -1,7 +1,7 @@
 -- Reading an entity without a schema gives the entity that JSON describes, or refuses JSON that describes none.
 use Rattle.std.proofs.Common.{◌≡◌, ◌∙◌, ℕ, suc, List, [], ◌∷◌, Bool, true, false, Option, Some, None, Result, Ok, Err}
 use Rattle.std.proofs.Common.{refl, sym, ap, subst, inl, inr}
-use Rattle.std.specs.Prelude.{◌&&◌, codes, ⊤}
+use Rattle.std.specs.Prelude.{◌↔◌, ◌&&◌, codes, ⊤, Contains}
 use Rattle.std.specs.List.{AllZip}
 use Rattle.serde_json.specs.Data.{Data, Members, no_members, member}
 use Rattle.serde_json.specs.Data as json
@@ -11,12 +11,16 @@ use Rattle.json_words.specs.Each.{each, list_of}
 use Rattle.json_words.proofs.EachLemmas.{bind_ok}
 use Rattle.values.specs.declared.entity_uid.EntityUid.{EntityUid}
 use Rattle.values.specs.Fields.{Field}
+use Rattle.entity_data.specs.ancestor_search.Hierarchy.{IsAscending, AscendingListsAreOne}
 use Rattle.entity_data.specs.declared.entity.Entity.{Entity}
+use Rattle.entity_data.specs.UidSets.{uid_set}
+use Rattle.entity_data.proofs.UidLemmas.{sorted_set, same_members}
 use Rattle.answer_lines.specs.entity_uids.Uids.{IsUid, IsRead, uid_in}
 use Rattle.answer_lines.specs.entity_uids.Laws.{OneUid, UidsAreFound}
 use Rattle.decision_texts.specs.declared.bare.ShapeFault.{ShapeFault}
 use Rattle.decision_texts.specs.declared.bare.ShapeFault.TheVariants.{BadShape}
-use Rattle.decision_texts.specs.Bare.{stated_uid, is_absent_or_empty, uids_of, stated_parents, is_bare, entity_of}
+use Rattle.decision_texts.specs.Bare.{stated_uid, is_absent_or_empty, uids_of, stated_parents}
+use Rattle.decision_texts.specs.Bare.{bare_parents, is_bare, entity_of}
 use Rattle.decision_texts.specs.BareEntities.{IsEmptyAt, ParentsAt, DescribesBareEntity}
 use Rattle.decision_texts.specs.BareEntities as says
 
@@ -80,6 +84,10 @@ unfolding uids_of
 only_parents None = only_ok []
 only_parents (Some d) = only_bind (or_fault BadShape (as_array d)) (λ ds. uids_of ds) (only_or (as_array d)) (λ ds. only_each 0 (list_of ds))
 
+only_set : (o : Option Data) → OnlyShape (bare_parents o)
+unfolding bare_parents
+only_set o = only_bind (stated_parents o) (λ us. Ok (uid_set us)) (only_parents o) (λ us. only_ok (uid_set us))
+
 abbrev entity_with : EntityUid → List EntityUid → Entity
 entity_with uid parents = record { uid = uid; attrs = []; parents = parents }
 
@@ -89,11 +97,11 @@ made uid parents = Ok (entity_with uid parents)
 pub only_entity : (d : Data) → OnlyShape (entity_of d)
 unfolding entity_of
 only_entity d =
-    only_bind (or_fault BadShape (get (codes "uid") d)) (λ name. stated_uid name >>= λ u. demand BadShape (is_bare d) >>= λ q. stated_parents (get (codes "parents") d) >>= λ us. made u us)
+    only_bind (or_fault BadShape (get (codes "uid") d)) (λ name. stated_uid name >>= λ u. demand BadShape (is_bare d) >>= λ q. bare_parents (get (codes "parents") d) >>= λ us. made u us)
     (only_or (get (codes "uid") d)) (λ name.
-    only_bind (stated_uid name) (λ u. demand BadShape (is_bare d) >>= λ q. stated_parents (get (codes "parents") d) >>= λ us. made u us) (only_or (uid_in name)) (λ u.
-    only_bind (demand BadShape (is_bare d)) (λ q. stated_parents (get (codes "parents") d) >>= λ us. made u us) (only_demand (is_bare d)) (λ q.
-    only_bind (stated_parents (get (codes "parents") d)) (λ us. made u us) (only_parents (get (codes "parents") d)) (λ us. only_ok (entity_with u us)))))
+    only_bind (stated_uid name) (λ u. demand BadShape (is_bare d) >>= λ q. bare_parents (get (codes "parents") d) >>= λ us. made u us) (only_or (uid_in name)) (λ u.
+    only_bind (demand BadShape (is_bare d)) (λ q. bare_parents (get (codes "parents") d) >>= λ us. made u us) (only_demand (is_bare d)) (λ q.
+    only_bind (bare_parents (get (codes "parents") d)) (λ us. made u us) (only_set (get (codes "parents") d)) (λ us. only_ok (entity_with u us)))))
 
 -- ---- nothing at a key
 
@@ -111,12 +119,31 @@ is_empty : (key : List ℕ) (d : Data) → IsEmptyAt key d → is_absent_or_empt
 is_empty key d (inl at) = ap is_absent_or_empty at
 is_empty key d (inr at) = ap is_absent_or_empty at
 
+-- ---- the set of parents
+
+-- what reading the set of parents consists of
+record SetParts (o : Option Data) (us : List EntityUid) : Type 0 where
+  listed : List EntityUid
+  read : stated_parents o ≡ done listed
+  are : uid_set listed ≡ us
+
+set_parts : (o : Option Data) (us : List EntityUid) → bare_parents o ≡ done us → SetParts o us
+unfolding bare_parents
+set_parts o us e =
+    let a = bind_ok (stated_parents o) (λ vs. Ok (uid_set vs)) us e in
+    record { listed = a.0; read = a.1; are = ok_is (uid_set a.0) us a.2 }
+
+set_step : (o : Option Data) (listed : List EntityUid) → stated_parents o ≡ done listed → bare_parents o ≡ done (uid_set listed)
+unfolding bare_parents
+set_step o listed e = rw e refl
+
 -- ---- uids
 
--- the laws of names
+-- the laws of names, and that lists which ascend are one
 pub record Names : Type 0 where
   pub one : OneUid
   pub found : UidsAreFound
+  pub lists : AscendingListsAreOne
 
 uid_read : (d : Data) (u : EntityUid) (o : Option EntityUid) → IsRead (IsUid d) o → o ≡ Some u → IsUid d u
 uid_read d u (Some v) is e = subst (IsUid d) (some_is v u e) is
@@ -165,15 +192,21 @@ module _ (names : Names) where
   is_parents d us (says.parents_stand ds vs at h) = ap stated_parents at ∙ is_each 0 (list_of ds) vs h
   is_parents d us (says.no_parents at) = ap stated_parents at
 
+  set_of_listed : (d : Data) (e : Entity) (h : DescribesBareEntity d e) → uid_set h.listed ≡ e.parents
+  set_of_listed d e h =
+      names.lists (uid_set h.listed) e.parents (sorted_set h.listed) h.ascend
+      (λ u. (λ c. (h.same u).1 ((same_members h.listed u).1 c), λ c. (same_members h.listed u).0 ((h.same u).0 c)))
+
   -- ---- the entity
 
   pub entity_is : (d : Data) (e : Entity) → entity_of d ≡ done e → DescribesBareEntity d e
   unfolding entity_of
   entity_is d e h =
-      let a = bind_ok (or_fault BadShape (get (codes "uid") d)) (λ name. stated_uid name >>= λ u. demand BadShape (is_bare d) >>= λ q. stated_parents (get (codes "parents") d) >>= λ us. made u us) e h in
-      let b = bind_ok (stated_uid a.0) (λ u. demand BadShape (is_bare d) >>= λ q. stated_parents (get (codes "parents") d) >>= λ us. made u us) e a.2 in
-      let c = bind_ok (demand BadShape (is_bare d)) (λ q. stated_parents (get (codes "parents") d) >>= λ us. made b.0 us) e b.2 in
-      let p = bind_ok (stated_parents (get (codes "parents") d)) (λ us. made b.0 us) e c.2 in
+      let a = bind_ok (or_fault BadShape (get (codes "uid") d)) (λ name. stated_uid name >>= λ u. demand BadShape (is_bare d) >>= λ q. bare_parents (get (codes "parents") d) >>= λ us. made u us) e h in
+      let b = bind_ok (stated_uid a.0) (λ u. demand BadShape (is_bare d) >>= λ q. bare_parents (get (codes "parents") d) >>= λ us. made u us) e a.2 in
+      let c = bind_ok (demand BadShape (is_bare d)) (λ q. bare_parents (get (codes "parents") d) >>= λ us. made b.0 us) e b.2 in
+      let p = bind_ok (bare_parents (get (codes "parents") d)) (λ us. made b.0 us) e c.2 in
+      let q = set_parts (get (codes "parents") d) p.0 p.1 in
       let bare = both_of (is_absent_or_empty (get (codes "attrs") d)) (is_absent_or_empty (get (codes "tags") d)) (passes (is_bare d) c.0 c.1) in
       subst (DescribesBareEntity d) (ok_is (entity_with b.0 p.0) e p.2)
       (record {
@@ -182,12 +215,15 @@ module _ (names : Names) where
         named = uid_is a.0 b.0 (some_of (uid_in a.0) b.0 b.1);
         no_attributes = empty_by (codes "attrs") d (get (codes "attrs") d) refl bare.0;
         no_tags = empty_by (codes "tags") d (get (codes "tags") d) refl bare.1;
-        has_parents = parents_by d p.0 (get (codes "parents") d) refl p.1;
+        listed = q.listed;
+        has_parents = parents_by d q.listed (get (codes "parents") d) refl q.read;
+        ascend = subst IsAscending q.are (sorted_set q.listed);
+        same = λ u. subst (λ us. Contains us u ↔ Contains q.listed u) q.are ((same_members q.listed u).1, (same_members q.listed u).0);
         attributes_are_empty = refl;
       })
 
   entity_step : (d name : Data) (u : EntityUid) (us : List EntityUid) → get (codes "uid") d ≡ Some name → uid_in name ≡ Some u → is_bare d ≡ true
-      → stated_parents (get (codes "parents") d) ≡ done us → entity_of d ≡ done (entity_with u us)
+      → bare_parents (get (codes "parents") d) ≡ done us → entity_of d ≡ done (entity_with u us)
   unfolding entity_of
   entity_step d name u us at is bare parents = rw (at, is, bare, parents) refl
 
@@ -195,5 +231,5 @@ module _ (names : Names) where
   is_entity d e h =
       entity_step d h.found e.uid e.parents h.at_uid (is_uid h.found e.uid h.named)
       (both (is_absent_or_empty (get (codes "attrs") d)) (is_absent_or_empty (get (codes "tags") d)) (is_empty (codes "attrs") d h.no_attributes) (is_empty (codes "tags") d h.no_tags))
-      (is_parents d e.parents h.has_parents)
+      (set_step (get (codes "parents") d) h.listed (is_parents d h.listed h.has_parents) ∙ ap (λ (us : List EntityUid). done us) (set_of_listed d e h))
       ∙ ap (λ (fields : List Field). done (record { uid = e.uid; attrs = fields; parents = e.parents })) (sym h.attributes_are_empty)

@@ -12,6 +12,7 @@ use Rattle.json_words.specs.Each.{each, list_of}
 use Rattle.json_words.specs.ReadsAs.{◌>>=◌, or_fault, demand}
 use Rattle.values.specs.declared.entity_uid.EntityUid.{EntityUid}
 use Rattle.entity_data.specs.declared.entity.Entity.{Entity}
+use Rattle.entity_data.specs.UidSets.{uid_set}
 use Rattle.answer_lines.specs.entity_uids.Uids.{uid_in}
 use Rattle.decision_texts.specs.declared.bare.ShapeFault.{ShapeFault}
 use Rattle.decision_texts.specs.declared.bare.ShapeFault.TheVariants.{BadShape}
@@ -37,6 +38,12 @@ stated_parents (Some d) = do
   ds ← or_fault BadShape (as_array d)
   uids_of ds
 
+-- `bare_parents o` are the parents that `stated_parents o` describes, ascending and without duplicates; else its error.
+unfoldable pub bare_parents : Option Data → Result (List EntityUid) ShapeFault
+bare_parents o = do
+  listed ← stated_parents o
+  Ok (uid_set listed)
+
 -- `is_bare d` tests whether the entity that `d` describes has no attributes and no tags.
 abbrev pub is_bare : Data → Bool
 is_bare d = is_absent_or_empty (get (codes "attrs") d) && is_absent_or_empty (get (codes "tags") d)
@@ -47,5 +54,5 @@ entity_of d = do
   name ← or_fault BadShape (get (codes "uid") d)
   uid ← stated_uid name
   bare ← demand BadShape (is_bare d)
-  parents ← stated_parents (get (codes "parents") d)
+  parents ← bare_parents (get (codes "parents") d)
   Ok (record { uid = uid; attrs = []; parents = parents })

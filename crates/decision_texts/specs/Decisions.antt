@@ -5,7 +5,7 @@
 -- entities before the request. A file that is too long is rejected before it is checked to be UTF-8. Bytes that are
 -- not UTF-8 are a bad token at offset 0.
 use Rattle.std.specs.Prelude.{◌≡◌, ◌⊎◌, ◌≤◌, ◌<◌, ℕ, List, [], ◌∷◌, length, if◌then◌else◌, Some, None, Ok, Err}
-use Rattle.std.specs.Prelude.{IsPermutation}
+use Rattle.std.specs.Prelude.{IsPermutation, option_map}
 use Rattle.std.specs.List.Sorted.{IsSortedByKey}
 use Rattle.std.specs.Ordering.{nat_cmp}
 use Rattle.std.specs.Cmp.Lexicographic.{slice_cmp}
@@ -24,6 +24,7 @@ use Rattle.answer_lines.specs.policy_grammar.Limits.{most_file_bytes}
 use Rattle.answer_lines.specs.policy_grammar.PolicyText.{IsPolicyFile, IsFileRefused}
 use Rattle.answer_lines.specs.authoriser.declared.answer.Answer.{Answer}
 use Rattle.answer_lines.specs.authoriser.Answers.{NamedPolicy, IsAnswer}
+use Rattle.answer_lines.specs.declared.place.Place.TheVariants.{Byte}
 use Rattle.answer_lines.specs.declared.refusal.Refusal.{Refusal}
 use Rattle.answer_lines.specs.Lines.{answer_line}
 use Rattle.decision_texts.specs.Settings.{Reading}
@@ -48,7 +49,7 @@ IsFileFault bytes fault =
 
 -- `refusal_by fault` is the reported error for the error `fault` of a file of policies, at the same byte offset.
 abbrev pub refusal_by : ReadFault → Refusal
-refusal_by fault = record { code = code_of fault; place = place_of fault; within = None }
+refusal_by fault = record { code = code_of fault; place = option_map Byte (place_of fault); within = None }
 
 -- `ArePoliciesRefused bytes refusal` holds if `refusal` is the reported error of `bytes` as a file of policies.
 pub record ArePoliciesRefused (bytes : List ℕ) (refusal : Refusal) : Type 0 where

@@ -5,6 +5,7 @@
 -- which the setting rejects; then that of a text that is not an array of entities, then that of the first item that
 -- describes no entity or repeats an earlier item's uid, at the item's index; then that of the request.
 use Rattle.std.specs.Prelude.{◌≡◌, ℕ, List, [], ◌∷◌, ◌++◌, length, Contains, Option, Some, None}
+use Rattle.std.specs.Prelude.{option_map}
 use Rattle.std.specs.List.{AllZip}
 use Rattle.serde_json.specs.Data.{Data, Items, array}
 use Rattle.json_words.specs.Each.{list_of}
@@ -17,6 +18,7 @@ use Rattle.entity_data.specs.Entities.{Actions}
 use Rattle.answer_lines.specs.policy_grammar.declared.policy.Policy.{Policy}
 use Rattle.answer_lines.specs.authoriser.declared.answer.Answer.{Answer}
 use Rattle.answer_lines.specs.authoriser.Answers.{NamedPolicy, IsAnswer}
+use Rattle.answer_lines.specs.declared.place.Place.TheVariants.{Index}
 use Rattle.answer_lines.specs.declared.refusal.Refusal.{Refusal}
 use Rattle.answer_lines.specs.Lines.{answer_line}
 use Rattle.decision_texts.specs.Decisions.{ArePoliciesOf, ArePoliciesRefused, named_policies, IsInOrder}
@@ -38,9 +40,9 @@ pub record StatedSetting : Type 1 where
   -- the declared actions
   pub actions : Actions
 
--- `error_at place code` is the error with the code `code` at the index `place`; without a place if that is `None`.
+-- `error_at index code` is the error with the code `code` at the index `index`; without a place if that is `None`.
 abbrev pub error_at : Option ℕ → ℕ → Refusal
-error_at place code = record { code = code; place = place; within = None }
+error_at index code = record { code = code; place = option_map Index index; within = None }
 
 -- ---- the array of entities
 

@@ -4,9 +4,9 @@ ghost use Rattle.serde_json.specs.View.{view, items_view};
 ghost use Rattle.json_words.specs.ReadsAs.{ReadsAs};
 ghost use Rattle.decision_texts.specs.declared.bare.ShapeFault.TheVariants as ShapeFault;
 ghost use Rattle.decision_texts.specs.Bare.{stated_uid, is_absent_or_empty, is_bare, uids_of, stated_parents};
-ghost use Rattle.decision_texts.specs.Bare.{entity_of};
+ghost use Rattle.decision_texts.specs.Bare.{bare_parents, entity_of};
 
-use entity_data::Entity;
+use entity_data::{Entity, UidSet};
 use json_words::only_keys;
 use plain::{Items, NoMemory, pair_with};
 use serde_json::Value;
@@ -55,9 +55,9 @@ fn parent_uids(alloc: Global, values: &[Value]) -> Result<Items<EntityUid>, Shap
     }
 }
 
-/// Returns the parents of an entity, given the value of its key `parents`; an empty list if the key is absent, and
-/// `BadShape` if the value is not an array of uids.
-fn read_parents(alloc: Global, parents: Option<&Value>) -> Result<Items<EntityUid>, ShapeFault>
+/// Returns the parents that the value of an entity's key `parents` lists, in its order; an empty list if the key is
+/// absent, and `BadShape` if the value is not an array of uids.
+fn listed_parents(alloc: Global, parents: Option<&Value>) -> Result<Items<EntityUid>, ShapeFault>
     ensures { ReadsAs ShapeFault.NoMemory (λ us. us) result
         (stated_parents (option_map (λ v. view v.now) parents.entry)) }
 {
@@ -68,6 +68,16 @@ fn read_parents(alloc: Global, parents: Option<&Value>) -> Result<Items<EntityUi
             None => Err(ShapeFault::BadShape),
         },
     }
+}
+
+/// Returns the set of the parents that [`listed_parents`] returns, or its error.
+#[tactic(auto, unfolding(crate::specs::Bare::bare_parents))]
+fn read_parents(alloc: Global, parents: Option<&Value>) -> Result<UidSet, ShapeFault>
+    ensures { ReadsAs ShapeFault.NoMemory (λ us. us) result
+        (bare_parents (option_map (λ v. view v.now) parents.entry)) }
+{
+    let listed = listed_parents(alloc, parents)?;
+    Ok(UidSet::new(listed.into_vec())?)
 }
 
 /// Returns whether the value is absent or an object without members.

@@ -84,7 +84,7 @@ fn answer_to<S: Setting>(
 }
 
 /// Returns the line of the answer that [`answer_to`] returns.
-fn line_of<S: Setting>(
+fn answer_line_of<S: Setting>(
     alloc: Global,
     setting: &S,
     policies: &[(String, Policy)],
@@ -113,7 +113,7 @@ fn line_to<S: Setting>(
     ensures refused { IfErr result (OrNoMemory no_memory (IsRequestRefused (S.reading setting.now) request.now)) }
 {
     let request = request_in(alloc, setting, request)?;
-    Ok(line_of(alloc, setting, policies, store, &request)?)
+    Ok(answer_line_of(alloc, setting, policies, store, &request)?)
 }
 
 /// Returns the line of the answer to the request in a text, over these policies and the entities in another text. An
@@ -149,7 +149,7 @@ fn answer_texts<S: Setting>(
 ///   earlier entity has its uid.
 /// - The error of the request, without a place.
 /// - `NoMemory` (1): an allocation failed; possible at any point.
-pub fn decide_in<S: Setting>(
+pub fn decide_under_setting<S: Setting>(
     alloc: Global,
     setting: &S,
     policies: &[u8],
@@ -193,5 +193,5 @@ pub fn decide_texts(
         (OrNoMemory no_memory (RejectsDecision bare_setting policies.now entities.now request.now)) }
 {
     decisions_are_as_stated();
-    decide_in(alloc, &NoSchema, policies, entities, request)
+    decide_under_setting(alloc, &NoSchema, policies, entities, request)
 }

@@ -6,6 +6,7 @@ ghost use Rattle.decision_texts.specs.DecisionLaws.{DecisionsAreAsStated};
 use answer_lines::{
     answers_are_lawful, file_names_differ, names_read_back, texts_have_one_reading,
 };
+use entity_data::ascending_lists_are_one;
 
 /// Proves that, without a schema, three texts have exactly one outcome, a line or an error. No-op.
 ///
@@ -32,4 +33,5 @@ pub fn decisions_are_as_stated()
     ensures { DecisionsAreAsStated }
 {
     names_read_back();
+    ascending_lists_are_one();
 }

@@ -12,14 +12,14 @@ mod request;
 mod request_reading;
 mod setting;
 
-pub use deciding::{decide_in, decide_texts};
+pub use deciding::{decide_texts, decide_under_setting};
 pub use entity_array::check_entities;
 pub use laws::{decisions_are_as_stated, texts_have_one_outcome};
 pub use policies::policies_of_file;
 pub use setting::Setting;
 
 // of this layer
-pub use answer_lines::{Refusal, answer_line, error_line};
+pub use answer_lines::{Place, Refusal, answer_line, error_line};
 
 // of lower layers
 pub use answer_lines::{Answer, Policy, texts_have_one_reading};

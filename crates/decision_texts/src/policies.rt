@@ -7,7 +7,7 @@ ghost use Rattle.decision_texts.specs.Decisions.{ArePoliciesOf, ArePoliciesRefus
 ghost use Rattle.decision_texts.specs.Decisions.{AreAdmitted, AreNotAdmitted};
 
 use crate::setting::Setting;
-use answer_lines::{MOST_FILE_BYTES, Policy, ReadFault, Refusal, parse_policies};
+use answer_lines::{MOST_FILE_BYTES, Place, Policy, ReadFault, Refusal, parse_policies};
 use std::alloc::Global;
 
 /// Returns the reported error for an error of the policies' text (10 to 19, or 1 for `NoMemory`), at the same byte
@@ -17,7 +17,7 @@ fn refusal_by(fault: ReadFault) -> Refusal
 {
     Refusal {
         code: fault.code(),
-        place: fault.place(),
+        place: fault.place().map(Place::Byte),
         within: None,
     }
 }

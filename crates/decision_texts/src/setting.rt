@@ -15,7 +15,8 @@ use values::Request;
 /// The setting under which texts are parsed.
 ///
 /// It says which policies are admitted, which entity and which request a JSON value describes, their errors, and which
-/// actions are declared. The order in which texts are checked is the same in each setting ([`crate::decide_in`]).
+/// actions are declared. The order in which texts are checked is the same in each setting
+/// ([`crate::decide_under_setting`]).
 pub trait Setting {
     /// The declared actions.
     type Actions: ActionSource + Drop;

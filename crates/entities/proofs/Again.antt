@@ -11,7 +11,7 @@ use Rattle.json_words.specs.ReadsAs.{◌>>=◌, or_fault, demand}
 use Rattle.json_words.proofs.EachLemmas.{bind_ok}
 use Rattle.values.specs.Values.{PlainValue, set, record_of, values_of, fields_of}
 use Rattle.values.specs.Sets.{set_list}
-use Rattle.entities.specs.declared.value_fault.ValueFault.TheVariants.{WrongType, Undeclared, Missing}
+use Rattle.entities.specs.declared.fault.EntityFault.TheVariants.{WrongType, Undeclared, Missing}
 use Rattle.schema_types.specs.Cedar.{Cedar, CedarFields, no_fields, field}
 use Rattle.entities.specs.Parts.{element_of, fields_in, declared_at}
 use Rattle.entities.specs.Typing.{leaf, all_there, with_or, inside, typed_value, typed_items, typed_members, record_in}

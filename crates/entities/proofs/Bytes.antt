@@ -6,7 +6,7 @@ use Rattle.json_words.specs.Json.{json_of}
 use Rattle.json_words.proofs.EachLemmas.{bind_ok}
 use Rattle.values.specs.Values.{PlainValue}
 use Rattle.schema_types.specs.Cedar.{Cedar, deep, IsTooLarge}
-use Rattle.entities.specs.declared.value_fault.ValueFault.TheVariants.{WrongType}
+use Rattle.entities.specs.declared.fault.EntityFault.TheVariants.{WrongType}
 use Rattle.entities.specs.Typing.{typed_value}
 use Rattle.entities.specs.ValueTexts.{text_typed}
 use Rattle.entities.specs.ValueLaws.{JsonIsReadAgain, WrittenIsReadAgain}

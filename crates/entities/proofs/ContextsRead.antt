@@ -8,16 +8,14 @@ use Rattle.serde_json.specs.Find.{get}
 use Rattle.json_words.specs.ReadsAs.{◌>>=◌, or_fault}
 use Rattle.values.specs.declared.entity_uid.EntityUid.{EntityUid}
 use Rattle.values.specs.Fields.{Field}
-use Rattle.entities.specs.declared.value_fault.ValueFault.{ValueFault}
+use Rattle.entities.specs.declared.fault.EntityFault.{EntityFault}
 use Rattle.entities.specs.Typing.{record_in}
 use Rattle.entity_data.specs.ancestor_search.Decided.{is_same}
 use Rattle.schema_types.specs.Cedar.{Cedar}
 use Rattle.schema.specs.declared.parts.EnvironmentKey.{EnvironmentKey}
 use Rattle.schema.specs.Schemas.{EnvironmentOf, StatedSchema}
-use Rattle.entities.specs.declared.fault.EntityFault.{EntityFault}
 use Rattle.entities.specs.declared.fault.EntityFault.TheVariants.{BadShape, NotApplicable}
 use Rattle.entities.specs.declared.requests.Asked.{Asked}
-use Rattle.entities.specs.Faults.{with_entity_fault}
 use Rattle.entities.specs.EntityForms.{or_empty}
 use Rattle.entities.specs.Contexts.{context_where, is_of_action, is_place, context_in}
 use Rattle.entities.specs.Requests.{context_asked}
@@ -30,7 +28,7 @@ use Rattle.entities.proofs.Leaves.{Names}
 use Rattle.entities.proofs.Fields.{both_true, joined}
 use Rattle.entities.proofs.Refusals.{records_are_read, records_are_refused}
 use Rattle.entities.proofs.Forms.{members_there}
-use Rattle.entities.proofs.EntitiesRead.{same_is, is_the_same, told_as, record_told}
+use Rattle.entities.proofs.EntitiesRead.{same_is, is_the_same}
 use Rattle.entities.proofs.OneOutcome.{gives, one_outcome}
 
 -- ---- the first environment with a place
@@ -59,10 +57,10 @@ module _ (passes : EnvironmentKey → Bool) (IsPlace : EnvironmentKey → Type 0
 
   -- what the functions compute of an object
   abbrev pub context_read : StatedSchema → Members → Result (List Field) EntityFault
-  context_read s ms = or_fault NotApplicable (context_where passes s.environments) >>= λ t. with_entity_fault (record_in t (json.object ms))
+  context_read s ms = or_fault NotApplicable (context_where passes s.environments) >>= λ t. record_in t (json.object ms)
 
-  read_step : (s : StatedSchema) (ms : Members) (t : Cedar) (r : Result (List Field) ValueFault) → context_where passes s.environments ≡ Some t → record_in t (json.object ms) ≡ r
-      → context_read s ms ≡ with_entity_fault r
+  read_step : (s : StatedSchema) (ms : Members) (t : Cedar) (r : Result (List Field) EntityFault) → context_where passes s.environments ≡ Some t → record_in t (json.object ms) ≡ r
+      → context_read s ms ≡ r
   read_step s ms t r at read = rw (at, read) refl
 
   none_step : (s : StatedSchema) (ms : Members) → context_where passes s.environments ≡ None → context_read s ms ≡ failed NotApplicable
@@ -74,18 +72,15 @@ module _ (passes : EnvironmentKey → Bool) (IsPlace : EnvironmentKey → Type 0
 
     pub refuses : (f : EntityFault) → FailsContext IsPlace s ms f → context_read s ms ≡ failed f
     refuses f (says.not_applicable none) = none_step s ms (no_context_by s.environments none (context_where passes s.environments) refl)
-    refuses f (says.bad_fields t g fault at bad tells) =
-        read_step s ms t (failed g) (is_context s.environments t at) ((records_are_refused names t ms g).1 bad) ∙ ap failed (told_as g fault tells)
+    refuses f (says.bad_fields t fault at bad) =
+        read_step s ms t (failed fault) (is_context s.environments t at) ((records_are_refused names t ms fault).1 bad)
 
     abbrev pub ContextOutcome : Type 0
     ContextOutcome = ((fields : List Field) × ReadsContext IsPlace s ms fields) ⊎ ((f : EntityFault) × FailsContext IsPlace s ms f)
 
-    by_record : (t : Cedar) → HasContext IsPlace s.environments t → (r : Result (List Field) ValueFault) → record_in t (json.object ms) ≡ r → ContextOutcome
+    by_record : (t : Cedar) → HasContext IsPlace s.environments t → (r : Result (List Field) EntityFault) → record_in t (json.object ms) ≡ r → ContextOutcome
     by_record t at (Ok fields) e = inl (fields, record { shape = t; applies = at; reads = (records_are_read names t ms fields).0 e })
-    by_record t at (Err f) e =
-        let bad = (records_are_refused names t ms f).0 e in
-        let known = record_told t ms f bad in
-        inr (known.0, says.bad_fields t f known.0 at bad known.1)
+    by_record t at (Err f) e = inr (f, says.bad_fields t f at ((records_are_refused names t ms f).0 e))
 
     by_place : (o : Option Cedar) → context_where passes s.environments ≡ o → ContextOutcome
     by_place (Some t) e = by_record t (context_is s.environments t e) (record_in t (json.object ms)) refl
@@ -173,10 +168,10 @@ module _ (names : Names) (s : StatedSchema) (action : EntityUid) (d : Data) wher
 
 empty_step : (s : StatedSchema) (asked : Asked) (d : Data) (x : Data) → or_empty (get (codes "context") d) ≡ x
     → context_asked s asked d
-    ≡ (or_fault NotApplicable (context_where (is_place asked.action asked.principal.type_name asked.resource.type_name) s.environments) >>= λ t. with_entity_fault (record_in t x))
+    ≡ (or_fault NotApplicable (context_where (is_place asked.action asked.principal.type_name asked.resource.type_name) s.environments) >>= λ t. record_in t x)
 unfolding context_asked
 empty_step s asked d x at =
-    ap (λ (y : Data). or_fault NotApplicable (context_where (is_place asked.action asked.principal.type_name asked.resource.type_name) s.environments) >>= λ t. with_entity_fault (record_in t y)) at
+    ap (λ (y : Data). or_fault NotApplicable (context_where (is_place asked.action asked.principal.type_name asked.resource.type_name) s.environments) >>= λ t. record_in t y) at
 
 module _ (names : Names) (s : StatedSchema) (asked : Asked) (d : Data) (ms : Members) (at : ObjectAt (codes "context") d ms) where
   abbrev passes : EnvironmentKey → Bool

@@ -13,7 +13,7 @@ use Rattle.json_words.proofs.EachLemmas.{bind_ok}
 use Rattle.values.specs.Values.{PlainValue, boolean, long, text, entity, decimal, ipaddr, set, record_of, values_of}
 use Rattle.values.specs.Values.{fields_of}
 use Rattle.values.specs.Sets.{set_list}
-use Rattle.entities.specs.declared.value_fault.ValueFault.TheVariants.{WrongType, Undeclared}
+use Rattle.entities.specs.declared.fault.EntityFault.TheVariants.{WrongType, Undeclared}
 use Rattle.schema_types.specs.Cedar as cedar
 use Rattle.schema_types.specs.Cedar.{Cedar, CedarFields, no_fields, field, deep, field_depth}
 use Rattle.entities.specs.Parts.{element_of, fields_in, declared_at}

@@ -7,7 +7,7 @@ use Rattle.values.specs.declared.entity_uid.EntityUid.{EntityUid}
 use Rattle.values.specs.Fields.{Field}
 use Rattle.values.specs.Values.{record_of, fields_of}
 use Rattle.values.specs.Uids.{uid_cmp-IsTotalOrder, uid_cmp-IsAntisymmetric, equal-is}
-use Rattle.entities.specs.declared.value_fault.ValueFault.{ValueFault}
+use Rattle.entities.specs.declared.fault.EntityFault.{EntityFault}
 use Rattle.entities.specs.Typing.{record_in}
 use Rattle.entity_data.specs.ancestor_search.Hierarchy.{AscendingListsAreOne}
 use Rattle.entity_data.specs.ancestor_search.Decided.{is_same}
@@ -16,20 +16,17 @@ use Rattle.entity_data.specs.declared.entity.Entity.{Entity}
 use Rattle.entity_data.specs.Listing.{set_has}
 use Rattle.entity_data.specs.UidSets.{uid_set}
 use Rattle.entity_data.proofs.UidLemmas.{sorted_set, set_from}
-use Rattle.schema_types.specs.Cedar.{Cedar, CedarFields}
+use Rattle.schema_types.specs.Cedar.{Cedar}
 use Rattle.schema.specs.Schemas.{StatedSchema}
 use Rattle.schema.specs.WellFormed.{IsActionType}
-use Rattle.entities.specs.declared.fault.EntityFault.{EntityFault}
-use Rattle.entities.specs.declared.fault.EntityFault.TheVariants.{BadShape, UnknownType, ActionEntity, Undeclared}
-use Rattle.entities.specs.declared.fault.EntityFault.TheVariants.{Missing, WrongType, BadParent, SelfParent, TagsLeftOut}
+use Rattle.entities.specs.declared.fault.EntityFault.TheVariants.{BadShape, UnknownType, ActionEntity}
+use Rattle.entities.specs.declared.fault.EntityFault.TheVariants.{BadParent, SelfParent, TagsLeftOut}
 use Rattle.entities.specs.declared.stated.StatedEntity.{StatedEntity}
-use Rattle.entities.specs.Faults.{of_value, with_entity_fault}
 use Rattle.entities.specs.EntityForms.{is_absent_or_empty, or_empty, stated_in}
 use Rattle.entities.specs.Entities.{is_action_type, shape_of, attributes_in, parent_fits, parents_fit, parents_in, entity_stated_in}
 use Rattle.entities.specs.Laws.{ActionTypeTestIsExact}
-use Rattle.entities.specs.StatedValues.{Reads, FaultyMember, RefusesRecord}
-use Rattle.entities.specs.StatedValues as record_says
-use Rattle.entities.specs.StatedEntities.{HasForm, HasShape, MayHaveParent, DescribesEntity, RefusesParents, IsReportedAs, RefusesEntity}
+use Rattle.entities.specs.StatedValues.{Reads}
+use Rattle.entities.specs.StatedEntities.{HasForm, HasShape, MayHaveParent, DescribesEntity, RefusesParents, RefusesEntity}
 use Rattle.entities.specs.StatedEntities as says
 use Rattle.schema.specs.Agreement.{Gives, HasOneOutcome}
 use Rattle.entities.proofs.ReadingSteps.{done, failed, true_false, untrue}
@@ -42,23 +39,6 @@ pub record Laws : Type 0 where
   pub names : Names
   pub actions : ActionTypeTestIsExact
   pub lists : AscendingListsAreOne
-
--- ---- faults of a record, as those of an entity
-
-pub told_as : (f : ValueFault) (g : EntityFault) → IsReportedAs f g → of_value f ≡ g
-told_as f g says.as_undeclared = refl
-told_as f g says.as_wrong_type = refl
-told_as f g says.as_missing = refl
-
-member_told : (fs : CedarFields) (ms : Members) (f : ValueFault) → FaultyMember fs ms f → (g : EntityFault) × IsReportedAs f g
-member_told fs ms f (record_says.undeclared k d ns none) = (Undeclared, says.as_undeclared)
-member_told fs ms f (record_says.wrong_type k d ns t here none) = (WrongType, says.as_wrong_type)
-member_told fs ms f (record_says.later_fault k d ns g t v here h rest) = member_told fs ns g rest
-
-pub record_told : (t : Cedar) (ms : Members) (f : ValueFault) → RefusesRecord t ms f → (g : EntityFault) × IsReportedAs f g
-record_told t ms f (record_says.no_record u ns none) = (WrongType, says.as_wrong_type)
-record_told t ms f (record_says.faulty fs ns g h) = member_told fs ns g h
-record_told t ms f (record_says.missing fs ns given read lack) = (Missing, says.as_missing)
 
 -- ---- parents
 
@@ -140,8 +120,8 @@ tags_step : (s : StatedSchema) (name : List ℕ) (d : Data) (t : Cedar) → is_a
 unfolding attributes_in shape_of
 tags_step s name d t action shape tags = rw (action, shape, tags) refl
 
-record_step : (s : StatedSchema) (name : List ℕ) (d : Data) (t : Cedar) (x : Data) (r : Result (List Field) ValueFault) → is_action_type name ≡ false → s.shape name ≡ Some t
-    → is_absent_or_empty (get (codes "tags") d) ≡ true → or_empty (get (codes "attrs") d) ≡ x → record_in t x ≡ r → attributes_in s name d ≡ with_entity_fault r
+record_step : (s : StatedSchema) (name : List ℕ) (d : Data) (t : Cedar) (x : Data) (r : Result (List Field) EntityFault) → is_action_type name ≡ false → s.shape name ≡ Some t
+    → is_absent_or_empty (get (codes "tags") d) ≡ true → or_empty (get (codes "attrs") d) ≡ x → record_in t x ≡ r → attributes_in s name d ≡ r
 unfolding attributes_in shape_of
 record_step s name d t x r action shape tags at read = rw (action, shape, tags, at, read) refl
 
@@ -173,8 +153,8 @@ module _ (laws : Laws) (s : StatedSchema) (d : Data) where
 
   -- ---- what is stated is given
 
-  attributes_of : (uid : EntityUid) (ps : List EntityUid) (ms : Members) (t : Cedar) (r : Result (List Field) ValueFault) → HasForm d uid ps ms no_members → HasShape s uid.type_name t
-      → record_in t (object ms) ≡ r → attributes_in s uid.type_name d ≡ with_entity_fault r
+  attributes_of : (uid : EntityUid) (ps : List EntityUid) (ms : Members) (t : Cedar) (r : Result (List Field) EntityFault) → HasForm d uid ps ms no_members → HasShape s uid.type_name t
+      → record_in t (object ms) ≡ r → attributes_in s uid.type_name d ≡ r
   attributes_of uid ps ms t r form shape read =
       record_step s uid.type_name d t (object ms) r (no_action uid.type_name shape.no_action) shape.declared (emptiness (codes "tags") d no_members form.has_tags)
       (members_there (codes "attrs") d ms form.has_attributes) read
@@ -201,9 +181,9 @@ module _ (laws : Laws) (s : StatedSchema) (d : Data) where
   refuses f (says.tags_left_out uid ps ms tags t form shape some) =
       attributes_fail s d uid ps TagsLeftOut (is_form laws.names d uid ps ms tags form)
       (tags_step s uid.type_name d t (no_action uid.type_name shape.no_action) shape.declared (emptiness (codes "tags") d tags form.has_tags ∙ not_empty tags some))
-  refuses f (says.bad_attributes uid ps ms t g fault form shape bad tells) =
+  refuses f (says.bad_attributes uid ps ms t fault form shape bad) =
       attributes_fail s d uid ps fault (is_form laws.names d uid ps ms no_members form)
-      (attributes_of uid ps ms t (failed g) form shape ((records_are_refused laws.names t ms g).1 bad) ∙ ap failed (told_as g fault tells))
+      (attributes_of uid ps ms t (failed fault) form shape ((records_are_refused laws.names t ms fault).1 bad))
   refuses f (says.bad_parents uid ps ms t attrs fault form shape read bad) =
       parents_fail s d uid ps attrs fault (is_form laws.names d uid ps ms no_members form) (read_attributes uid ps ms t attrs form shape read) (is_refused_parent s uid ps fault bad)
 
@@ -230,13 +210,10 @@ module _ (laws : Laws) (s : StatedSchema) (d : Data) where
   )
   by_parents uid ps ms t attrs form shape read (inr bad) = inr (bad.0, says.bad_parents uid ps ms t attrs bad.0 form shape read bad.1)
 
-  by_record : (uid : EntityUid) (ps : List EntityUid) (ms : Members) (t : Cedar) → HasForm d uid ps ms no_members → HasShape s uid.type_name t → (r : Result (List Field) ValueFault)
+  by_record : (uid : EntityUid) (ps : List EntityUid) (ms : Members) (t : Cedar) → HasForm d uid ps ms no_members → HasShape s uid.type_name t → (r : Result (List Field) EntityFault)
       → record_in t (object ms) ≡ r → Outcome
   by_record uid ps ms t form shape (Ok attrs) e = by_parents uid ps ms t attrs form shape ((records_are_read laws.names t ms attrs).0 e) (parents_judged s uid ps)
-  by_record uid ps ms t form shape (Err f) e =
-      let bad = (records_are_refused laws.names t ms f).0 e in
-      let known = record_told t ms f bad in
-      inr (known.0, says.bad_attributes uid ps ms t f known.0 form shape bad known.1)
+  by_record uid ps ms t form shape (Err f) e = inr (f, says.bad_attributes uid ps ms t f form shape ((records_are_refused laws.names t ms f).0 e))
 
   some_member : (k : List ℕ) (x : Data) (ms : Members) → member k x ms ≡ no_members → ⊥
   some_member k x ms e = absurd cc

@@ -1,6 +1,6 @@
 -- The one JSON of an entity that was read is read as that entity.
 use Rattle.std.proofs.Common.{◌≡◌, ◌∙◌, ◌≤◌, ℕ, suc, List, [], ◌∷◌, map, Bool, true, false, inr, ◌<◌, Option, Some}
-use Rattle.std.proofs.Common.{None, MatchOption, Result, Ok, Err, refl, sym, ap, subst, arith}
+use Rattle.std.proofs.Common.{None, MatchOption, Result, Ok, refl, sym, ap, subst, arith}
 use Rattle.std.specs.Prelude.{codes, not, ⊤}
 use Rattle.std.specs.List.{AllByRecursion}
 use Rattle.serde_json.specs.Data.{Data, object, depth, items_depth}
@@ -20,22 +20,20 @@ use Rattle.entity_uids.specs.Laws.{OneUid, UidsAreFound, WrittenIsRead}
 use Rattle.schema_types.specs.Cedar.{Cedar, deep, IsTooLarge}
 use Rattle.schema.specs.Schemas.{StatedSchema}
 use Rattle.schema.specs.WellFormed.{IsWellFormed}
-use Rattle.entities.specs.declared.value_fault.ValueFault.{ValueFault}
+use Rattle.entities.specs.declared.fault.EntityFault.{EntityFault}
 use Rattle.entities.specs.Typing.{record_in}
 use Rattle.entities.specs.CanonicalValues.{fields_json}
 use Rattle.entities.specs.ValueLaws.{RecordIsReadAgain, RecordNests}
-use Rattle.entities.specs.declared.fault.EntityFault.{EntityFault}
 use Rattle.entities.specs.declared.fault.EntityFault.TheVariants.{BadShape, ActionEntity, UnknownType, TagsLeftOut}
 use Rattle.entities.specs.declared.stated.StatedEntity.{StatedEntity}
 use Rattle.entity_data.specs.declared.entity.Entity.{Entity}
-use Rattle.entities.specs.Faults.{with_entity_fault}
 use Rattle.entities.specs.EntityForms.{stated_uid, uids_of, stated_parents, has_objects, is_absent_or_empty, or_empty}
 use Rattle.entities.specs.EntityForms.{stated_in}
 use Rattle.entities.specs.Entities.{is_action_type, shape_of, attributes_in, parent_fits, parents_fit, parents_in}
 use Rattle.entities.specs.Entities.{entity_stated_in}
 use Rattle.entity_data.specs.UidSets.{uid_set}
 use Rattle.entities.specs.Canonical.{canonical_json}
-use Rattle.entities.specs.Laws.{CanonicalEntityIsRead, CanonicalEntityNests, CanonicalIsOne, ParentsAscend}
+use Rattle.entities.specs.Laws.{CanonicalEntityIsRead, CanonicalEntityNests, CanonicalIsOne}
 use Rattle.entity_data.proofs.UidLemmas.{sorted_set}
 use Rattle.entities.proofs.UidSetLemmas.{all_set, set_same}
 
@@ -140,10 +138,6 @@ form_step e name parents = rw (name, parents) refl
 
 -- ---- attributes
 
-told_ok : {A : Type 0} (r : Result A ValueFault) (x : A) → with_entity_fault r ≡ done x → r ≡ Ok x
-told_ok (Ok y) x e = let same : y ≡ x = cc in ap (λ z. Ok z) same
-told_ok (Err f) x e = absurd cc
-
 -- what reading attributes consists of
 record Attributed (s : StatedSchema) (name : List ℕ) (d : Data) (fields : List Field) : Type 0 where
   shape : Cedar
@@ -153,9 +147,9 @@ record Attributed (s : StatedSchema) (name : List ℕ) (d : Data) (fields : List
 attributed : (s : StatedSchema) (name : List ℕ) (d : Data) (fields : List Field) → attributes_in s name d ≡ Ok fields → Attributed s name d fields
 unfolding attributes_in
 attributed s name d fields e =
-    let a = bind_ok (shape_of s name) (λ shape. demand TagsLeftOut (is_absent_or_empty (get (codes "tags") d)) >>= λ u. with_entity_fault (record_in shape (or_empty (get (codes "attrs") d)))) fields e in
-    let b = bind_ok (demand TagsLeftOut (is_absent_or_empty (get (codes "tags") d))) (λ u. with_entity_fault (record_in a.0 (or_empty (get (codes "attrs") d)))) fields a.2 in
-    record { shape = a.0; is_shape = a.1; read = told_ok (record_in a.0 (or_empty (get (codes "attrs") d))) fields b.2 }
+    let a = bind_ok (shape_of s name) (λ shape. demand TagsLeftOut (is_absent_or_empty (get (codes "tags") d)) >>= λ u. record_in shape (or_empty (get (codes "attrs") d))) fields e in
+    let b = bind_ok (demand TagsLeftOut (is_absent_or_empty (get (codes "tags") d))) (λ u. record_in a.0 (or_empty (get (codes "attrs") d))) fields a.2 in
+    record { shape = a.0; is_shape = a.1; read = b.2 }
 
 attributes_step : (s : StatedSchema) (name : List ℕ) (e : Entity) (shape : Cedar) → shape_of s name ≡ Ok shape
     → record_in shape (object (fields_json (fields_of e.attrs))) ≡ Ok e.attrs → attributes_in s name (canonical_json e) ≡ Ok e.attrs
@@ -234,12 +228,6 @@ check_again : (s : StatedSchema) (uid : EntityUid) (stated parents : List Entity
 check_again s uid stated parents c =
     let fits = all_set (λ x. parent_fits s uid x ≡ Ok tt) stated (all_fit s uid stated tt c.fit) in
     check_step s uid parents (ap (parents_fit s uid) (sym c.are) ∙ fit_all s uid (uid_set stated) fits) (set_same parents (ascend stated parents c.are))
-
-pub parents_ascend : ParentsAscend
-parents_ascend s d e read =
-    let p = parts_of s d e read in
-    let c = checked s p.stated.uid p.stated.parents e.parents p.parents in
-    ascend p.stated.parents e.parents c.are
 
 pub canonical_is_read : Below → CanonicalEntityIsRead
 canonical_is_read below s d e read =

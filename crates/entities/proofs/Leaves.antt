@@ -24,7 +24,7 @@ use Rattle.values.specs.Values as value
 use Rattle.values.specs.Values.{PlainValue}
 use Rattle.entity_uids.specs.Uids.{IsUid, IsRead, uid_in, plain_uid_in}
 use Rattle.entity_uids.specs.Laws.{OneUid, UidsAreFound}
-use Rattle.entities.specs.declared.value_fault.ValueFault.TheVariants.{WrongType}
+use Rattle.entities.specs.declared.fault.EntityFault.TheVariants.{WrongType}
 use Rattle.schema_types.specs.Cedar as type
 use Rattle.schema_types.specs.Cedar.{Cedar}
 use Rattle.entities.specs.Typing.{under_key, plain_call, call_in, argument_in, boolean_in, is_long}

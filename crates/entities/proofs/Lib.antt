@@ -16,13 +16,13 @@ pub mod PlainValues
 pub mod PlainEntities
 pub mod ReadAgain
 mod ReadingSteps
-mod Only
+pub mod Only
 mod OneOutcome
 mod Leaves
 mod Forms
 mod Fields
 mod ValuesRead
-mod Refusals
+pub mod Refusals
 mod EntitiesRead
 mod ContextsRead
 mod RequestsRead

@@ -9,8 +9,8 @@ use Rattle.values.specs.Fields.{Field}
 use Rattle.values.specs.Uids.{text_cmp, text_cmp-IsTotalOrder}
 use Rattle.schema_types.specs.Cedar.{Cedar, CedarFields}
 use Rattle.json_words.specs.ReadsAs.{◌>>=◌, or_fault}
-use Rattle.entities.specs.declared.value_fault.ValueFault.{ValueFault}
-use Rattle.entities.specs.declared.value_fault.ValueFault.TheVariants.{Undeclared}
+use Rattle.entities.specs.declared.fault.EntityFault.{EntityFault}
+use Rattle.entities.specs.declared.fault.EntityFault.TheVariants.{Undeclared}
 use Rattle.entities.specs.Parts.{declared_at}
 use Rattle.entities.specs.Typing.{typed_value, typed_members}
 use Rattle.entities.specs.inner.FieldSuffixes.{DeclareAlikeFrom}
@@ -21,7 +21,7 @@ use Rattle.entities.proofs.Walk.{Entry, Ordered, with_front}
 abbrev AreFrom : List ℕ → List Entry → Type 0
 AreFrom name es = AllByRecursion (λ (e : Entry). text_cmp (string_bytes e.0) name ≡ Less → ⊥) es
 
-abbrev done : List Field → Result (List Field) ValueFault
+abbrev done : List Field → Result (List Field) EntityFault
 done vs = Ok vs
 
 read_alike : (name : List ℕ) (fs gs : CedarFields) → DeclareAlikeFrom name fs gs → (es : List Entry) → AreFrom name es → typed_members fs (members_view es) ≡ typed_members gs (members_view es)
@@ -29,7 +29,7 @@ unfolding typed_value
 read_alike name fs gs alike [] from = refl
 read_alike name fs gs alike (e ∷ es) from =
     ap (λ (o : Option Cedar). or_fault Undeclared o >>= λ t. typed_value t (view e.1) >>= λ v. typed_members fs (members_view es) >>= λ vs. done ((string_bytes e.0, v) ∷ vs)) (alike (string_bytes e.0) from.0)
-    ∙ ap (λ (r : Result (List Field) ValueFault). or_fault Undeclared (declared_at (string_bytes e.0) gs) >>= λ t. typed_value t (view e.1) >>= λ v. r >>= λ vs. done ((string_bytes e.0, v) ∷ vs)) (read_alike name fs gs alike es from.1)
+    ∙ ap (λ (r : Result (List Field) EntityFault). or_fault Undeclared (declared_at (string_bytes e.0) gs) >>= λ t. typed_value t (view e.1) >>= λ v. r >>= λ vs. done ((string_bytes e.0, v) ∷ vs)) (read_alike name fs gs alike es from.1)
 
 -- names behind the first are not in front of it
 behind : (x y : List ℕ) → text_cmp x y ≡ Less → text_cmp y x ≡ Less → ⊥
@@ -47,9 +47,9 @@ unfolding IsStrictlySortedBy
 from_first front e left h = (itself (string_bytes e.0), all_behind e.0 left h.0.0)
 
 -- what is read of the members that are left, by the fields from the next name on
-pub ahead : (name : List ℕ) (fs gs : CedarFields) (e : Entry) (left : List Entry) (front : List Field) (total : Result (List Field) ValueFault) → name ≡ string_bytes e.0
+pub ahead : (name : List ℕ) (fs gs : CedarFields) (e : Entry) (left : List Entry) (front : List Field) (total : Result (List Field) EntityFault) → name ≡ string_bytes e.0
     → DeclareAlikeFrom name fs gs → Ordered front (e ∷ left)
     → total ≡ with_front front (typed_members fs (members_view (e ∷ left))) → total ≡ with_front front (typed_members gs (members_view (e ∷ left)))
 ahead name fs gs e left front total is alike order so_far =
-    so_far ∙ ap (λ (r : Result (List Field) ValueFault). with_front front r)
+    so_far ∙ ap (λ (r : Result (List Field) EntityFault). with_front front r)
     (read_alike (string_bytes e.0) fs gs (subst (λ (n : List ℕ). DeclareAlikeFrom n fs gs) is alike) (e ∷ left) (from_first front e left order))

@@ -1,5 +1,5 @@
 -- The one JSON of an entity that was read from JSON that bytes are is plain.
-use Rattle.std.proofs.Common.{◌≡◌, ℕ, suc, List, [], ◌∷◌, map, Option, Some, None, Result, Ok, Err, refl, subst}
+use Rattle.std.proofs.Common.{◌≡◌, ℕ, suc, List, [], ◌∷◌, map, Option, Some, None, Ok, refl, subst}
 use Rattle.std.proofs.Common.{Less, Equal, Greater}
 use Rattle.std.specs.Prelude.{codes}
 use Rattle.std.specs.List.Sorted.{IsStrictlySortedBy}
@@ -19,14 +19,12 @@ use Rattle.values.specs.Names.{uid_cmp}
 use Rattle.values.specs.Values.{fields_of}
 use Rattle.entity_uids.specs.Uids.{uid_in, uid_json}
 use Rattle.schema.specs.Schemas.{StatedSchema}
-use Rattle.entities.specs.declared.value_fault.ValueFault.{ValueFault}
 use Rattle.entities.specs.Typing.{record_in}
 use Rattle.entities.specs.CanonicalValues.{fields_json}
 use Rattle.entity_data.specs.declared.entity.Entity.{Entity}
 use Rattle.entity_data.specs.UidSets.{put_uid, uid_set}
 use Rattle.entities.specs.declared.fault.EntityFault.TheVariants.{BadShape, TagsLeftOut}
 use Rattle.entities.specs.declared.stated.StatedEntity.{StatedEntity}
-use Rattle.entities.specs.Faults.{with_entity_fault}
 use Rattle.entities.specs.EntityForms.{stated_uid, uids_of, stated_parents, has_objects, is_absent_or_empty, or_empty}
 use Rattle.entities.specs.EntityForms.{stated_in}
 use Rattle.entities.specs.Entities.{shape_of, attributes_in, parents_fit, parents_in, entity_stated_in}
@@ -35,10 +33,6 @@ use Rattle.entities.specs.Texts.{HaveUtf8}
 use Rattle.entities.proofs.Steps.{carried, some_of}
 use Rattle.entities.proofs.PlainParts.{IsClean, get_is_clean, uid_is_utf8, uid_is_plain}
 use Rattle.entities.proofs.PlainValues.{record_plain}
-
-told_ok : {A : Type 0} (r : Result A ValueFault) (x : A) → with_entity_fault r ≡ Ok x → r ≡ Ok x
-told_ok (Ok y) x e = cc
-told_ok (Err f) x e = absurd cc
 
 -- ---- names
 
@@ -128,10 +122,10 @@ unfolding attributes_in
 attributes_plain s name d fields h e =
     let attrs = or_empty (get (codes "attrs") d) in
     let tags = demand TagsLeftOut (is_absent_or_empty (get (codes "tags") d)) in
-    let a = bind_ok (shape_of s name) (λ shape. tags >>= λ u. with_entity_fault (record_in shape attrs)) fields e in
-    let b = bind_ok tags (λ u. with_entity_fault (record_in a.0 attrs)) fields a.2 in
+    let a = bind_ok (shape_of s name) (λ shape. tags >>= λ u. record_in shape attrs) fields e in
+    let b = bind_ok tags (λ u. record_in a.0 attrs) fields a.2 in
     record_plain a.0 attrs fields (or_empty_clean (get (codes "attrs") d) (λ x. get_is_clean (codes "attrs") d x h))
-    (told_ok (record_in a.0 attrs) fields b.2)
+    b.2
 
 set_of_parents : (s : StatedSchema) (uid : EntityUid) (stated parents : List EntityUid) → HavePlainNames stated
     → parents_in s uid stated ≡ Ok parents → HavePlainNames parents

@@ -23,8 +23,8 @@ use Rattle.values.specs.Sets.{put_value, set_list}
 use Rattle.schema_types.specs.Cedar as cedar
 use Rattle.schema_types.specs.Cedar.{Cedar, CedarFields}
 use Rattle.entity_uids.specs.Uids.{uid_in}
-use Rattle.entities.specs.declared.value_fault.ValueFault.{ValueFault}
-use Rattle.entities.specs.declared.value_fault.ValueFault.TheVariants.{WrongType, Undeclared, Missing}
+use Rattle.entities.specs.declared.fault.EntityFault.{EntityFault}
+use Rattle.entities.specs.declared.fault.EntityFault.TheVariants.{WrongType, Undeclared, Missing}
 use Rattle.entities.specs.Parts.{element_of, fields_in, declared_at}
 use Rattle.values.specs.extensions.TextsDecided.{decimal_of, network_of}
 use Rattle.entities.specs.Typing.{argument_in, boolean_in, is_long, long_of, long_in, text_in, entity_in}
@@ -37,7 +37,7 @@ use Rattle.entities.proofs.Steps.{carried, some_of, passes}
 use Rattle.entities.proofs.PlainParts.{IsClean, str_is_utf8, uid_is_utf8, entity_is_plain, long_is_whole}
 use Rattle.entities.proofs.PlainParts.{decimal_text_is_utf8, network_text_is_utf8, call_is_plain}
 
-inside_ok : {A : Type 0} (r : Result A ValueFault) (x : A) → inside r ≡ Ok x → r ≡ Ok x
+inside_ok : {A : Type 0} (r : Result A EntityFault) (x : A) → inside r ≡ Ok x → r ≡ Ok x
 inside_ok (Ok y) x e = e
 inside_ok (Err f) x e = absurd cc
 

@@ -4,7 +4,7 @@ use Rattle.std.specs.Prelude.{codes}
 use Rattle.std.specs.Str.{bytes_eq}
 use Rattle.serde_json.specs.Data.{Data, Items, no_items, item, Members, no_members, member}
 use Rattle.serde_json.specs.Data as json
-use Rattle.serde_json.specs.Find.{get, as_i64, as_bool, as_number, as_str}
+use Rattle.serde_json.specs.Find.{get, as_i64, as_bool, as_number, as_object, as_str}
 use Rattle.json_words.specs.ReadsAs.{◌>>=◌, or_fault, demand}
 use Rattle.json_words.specs.Keys.{has_only}
 use Rattle.json_words.specs.Json.{text_at}
@@ -15,8 +15,8 @@ use Rattle.values.specs.Fields.{Field}
 use Rattle.values.specs.Sets.{set_list}
 use Rattle.values.specs.extensions.TextsDecided.{decimal_of, network_of}
 use Rattle.entity_uids.specs.Uids.{uid_in}
-use Rattle.entities.specs.declared.value_fault.ValueFault.{ValueFault}
-use Rattle.entities.specs.declared.value_fault.ValueFault.TheVariants.{WrongType, Undeclared, Missing}
+use Rattle.entities.specs.declared.fault.EntityFault.{EntityFault}
+use Rattle.entities.specs.declared.fault.EntityFault.TheVariants.{WrongType, Undeclared, Missing}
 use Rattle.schema_types.specs.Cedar as type
 use Rattle.schema_types.specs.Cedar.{Cedar, CedarFields}
 use Rattle.entities.specs.Parts.{declared_at, element_of, fields_in}
@@ -28,17 +28,17 @@ use Rattle.entities.specs.StatedValues as says
 use Rattle.entities.specs.ParsingLaws.{ValuesAreRead, OneValue, OtherJsonIsOfWrongType, RecordsAreRead, RecordsAreRefused}
 use Rattle.entities.proofs.ReadingSteps.{done, failed, ok_is, err_is, never, passes}
 use Rattle.entities.proofs.Leaves.{Names}
-use Rattle.entities.proofs.Only.{Only, only_ok, only_wrong, only_bind, only_demand, only_or}
+use Rattle.entities.proofs.Only.{Within, Only, within_bind, only_ok, only_wrong, only_bind, only_demand, only_or}
 use Rattle.entities.proofs.Fields.{declared_is, is_declared, required_is, is_required, lacks, is_lacking}
 use Rattle.entities.proofs.ValuesRead.{value_is, members_are, is_value, are_members}
 
 -- ---- what is wrong inside a value is of one kind
 
-only_inside : {A : Type 0} (r : Result A ValueFault) → Only WrongType (inside r)
+only_inside : {A : Type 0} (r : Result A EntityFault) → Only WrongType (inside r)
 only_inside (Ok x) = only_ok WrongType x
 only_inside (Err f) = only_wrong WrongType
 
-only_with : {A B : Type 0} (o : Option A) (k : A → Result B ValueFault) (r : Result B ValueFault) → ((x : A) → Only WrongType (k x)) → Only WrongType r → Only WrongType (with_or o k r)
+only_with : {A B : Type 0} (o : Option A) (k : A → Result B EntityFault) (r : Result B EntityFault) → ((x : A) → Only WrongType (k x)) → Only WrongType r → Only WrongType (with_or o k r)
 only_with (Some x) k r some none = some x
 only_with None k r some none = none
 
@@ -116,17 +116,43 @@ mutual
       only_bind (typed_value t d) (λ v. typed_items t ds >>= λ vs. Ok (v ∷ vs)) (only_value t d) (λ v.
       only_bind (typed_items t ds) (λ vs. Ok (v ∷ vs)) (only_items t ds) (λ vs. only_ok WrongType (v ∷ vs)))
 
+-- ---- the faults of a record
+
+pub data IsRecordFault : EntityFault → Type 0 where
+  is_undeclared : IsRecordFault Undeclared
+  is_missing : IsRecordFault Missing
+  is_wrong_type : IsRecordFault WrongType
+
+is_the_one : {A : Type 0} {w : EntityFault} {r : Result A EntityFault} → IsRecordFault w → Only w r → Within IsRecordFault r
+is_the_one is only f e = subst IsRecordFault (sym (only f e)) is
+
+members_within : (fs : CedarFields) (ms : Members) → Within IsRecordFault (typed_members fs ms)
+unfolding typed_value
+members_within fs no_members = λ f e. absurd (never [] f e)
+members_within fs (member k d ms) =
+    within_bind (or_fault Undeclared (declared_at k fs)) (λ t. typed_value t d >>= λ v. typed_members fs ms >>= λ vs. Ok ((k, v) ∷ vs)) (is_the_one is_undeclared (only_or Undeclared (declared_at k fs))) (λ t.
+    within_bind (typed_value t d) (λ v. typed_members fs ms >>= λ vs. Ok ((k, v) ∷ vs)) (is_the_one is_wrong_type (only_value t d)) (λ v.
+    within_bind (typed_members fs ms) (λ vs. Ok ((k, v) ∷ vs)) (members_within fs ms) (λ vs f e. absurd (never ((k, v) ∷ vs) f e))))
+
+pub record_within : (t : Cedar) (d : Data) → Within IsRecordFault (record_in t d)
+unfolding record_in
+record_within t d =
+    within_bind (or_fault WrongType (fields_in t)) (λ fs. or_fault WrongType (as_object d) >>= λ ms. typed_members fs ms >>= λ vs. demand Missing (all_there fs d) >>= λ u. Ok vs) (is_the_one is_wrong_type (only_or WrongType (fields_in t))) (λ fs.
+    within_bind (or_fault WrongType (as_object d)) (λ ms. typed_members fs ms >>= λ vs. demand Missing (all_there fs d) >>= λ u. Ok vs) (is_the_one is_wrong_type (only_or WrongType (as_object d))) (λ ms.
+    within_bind (typed_members fs ms) (λ vs. demand Missing (all_there fs d) >>= λ u. Ok vs) (members_within fs ms) (λ vs.
+    within_bind (demand Missing (all_there fs d)) (λ u. Ok vs) (is_the_one is_missing (only_demand Missing (all_there fs d))) (λ u f e. absurd (never vs f e)))))
+
 -- ---- no value
 
 module _ (names : Names) where
-  none_by : (t : Cedar) (d : Data) → ((v : PlainValue) → Reads t d v → ⊥) → (r : Result PlainValue ValueFault) → typed_value t d ≡ r → r ≡ failed WrongType
+  none_by : (t : Cedar) (d : Data) → ((v : PlainValue) → Reads t d v → ⊥) → (r : Result PlainValue EntityFault) → typed_value t d ≡ r → r ≡ failed WrongType
   none_by t d none (Ok v) e = absurd (none v (value_is names t d v e))
   none_by t d none (Err f) e = ap failed (only_value t d f e)
 
   no_value : (t : Cedar) (d : Data) → ((v : PlainValue) → Reads t d v → ⊥) → typed_value t d ≡ failed WrongType
   no_value t d none = none_by t d none (typed_value t d) refl
 
-  value_none : (t : Cedar) (d : Data) (f : ValueFault) → typed_value t d ≡ failed f → (v : PlainValue) → Reads t d v → ⊥
+  value_none : (t : Cedar) (d : Data) (f : EntityFault) → typed_value t d ≡ failed f → (v : PlainValue) → Reads t d v → ⊥
   value_none t d f e v h = never v f (sym (is_value names t d v h) ∙ e)
 
   pub values_are_read : ValuesAreRead
@@ -140,15 +166,15 @@ module _ (names : Names) where
 
   -- ---- members
 
-  rest_faulty : (fs : CedarFields) (k : List ℕ) (d : Data) (ms : Members) (t : Cedar) (v : PlainValue) (f : ValueFault) → Declares fs k t → Reads t d v
-      → ((g : ValueFault) → typed_members fs ms ≡ failed g → FaultyMember fs ms g)
-      → (r : Result (List Field) ValueFault) → typed_members fs ms ≡ r → (r >>= λ ws. Ok ((k, v) ∷ ws)) ≡ failed f → FaultyMember fs (member k d ms) f
+  rest_faulty : (fs : CedarFields) (k : List ℕ) (d : Data) (ms : Members) (t : Cedar) (v : PlainValue) (f : EntityFault) → Declares fs k t → Reads t d v
+      → ((g : EntityFault) → typed_members fs ms ≡ failed g → FaultyMember fs ms g)
+      → (r : Result (List Field) EntityFault) → typed_members fs ms ≡ r → (r >>= λ ws. Ok ((k, v) ∷ ws)) ≡ failed f → FaultyMember fs (member k d ms) f
   rest_faulty fs k d ms t v f here h rest (Ok ws) is e = absurd (never ((k, v) ∷ ws) f e)
   rest_faulty fs k d ms t v f here h rest (Err g) is e = says.later_fault k d ms f t v here h (subst (FaultyMember fs ms) (err_is g f e) (rest g is))
 
-  value_faulty : (fs : CedarFields) (k : List ℕ) (d : Data) (ms : Members) (t : Cedar) (f : ValueFault) → Declares fs k t
-      → ((g : ValueFault) → typed_members fs ms ≡ failed g → FaultyMember fs ms g)
-      → (r : Result PlainValue ValueFault) → typed_value t d ≡ r → (r >>= λ v. typed_members fs ms >>= λ ws. Ok ((k, v) ∷ ws)) ≡ failed f → FaultyMember fs (member k d ms) f
+  value_faulty : (fs : CedarFields) (k : List ℕ) (d : Data) (ms : Members) (t : Cedar) (f : EntityFault) → Declares fs k t
+      → ((g : EntityFault) → typed_members fs ms ≡ failed g → FaultyMember fs ms g)
+      → (r : Result PlainValue EntityFault) → typed_value t d ≡ r → (r >>= λ v. typed_members fs ms >>= λ ws. Ok ((k, v) ∷ ws)) ≡ failed f → FaultyMember fs (member k d ms) f
   value_faulty fs k d ms t f here rest (Ok v) is e = rest_faulty fs k d ms t v f here (value_is names t d v is) rest (typed_members fs ms) refl e
   value_faulty fs k d ms t f here rest (Err g) is e =
       subst (FaultyMember fs (member k d ms)) (sym (only_value t d g is) ∙ err_is g f e) (says.wrong_type k d ms t here (value_none t d g is))
@@ -156,14 +182,14 @@ module _ (names : Names) where
   absent : (fs : CedarFields) (k : List ℕ) → declared_at k fs ≡ None → (t : Cedar) → Declares fs k t → ⊥
   absent fs k e t h = let is : declared_at k fs ≡ Some t = is_declared fs k t h in absurd cc
 
-  key_faulty : (fs : CedarFields) (k : List ℕ) (d : Data) (ms : Members) (f : ValueFault)
-      → ((g : ValueFault) → typed_members fs ms ≡ failed g → FaultyMember fs ms g)
+  key_faulty : (fs : CedarFields) (k : List ℕ) (d : Data) (ms : Members) (f : EntityFault)
+      → ((g : EntityFault) → typed_members fs ms ≡ failed g → FaultyMember fs ms g)
       → (o : Option Cedar) → declared_at k fs ≡ o → (or_fault Undeclared o >>= λ t. typed_value t d >>= λ v. typed_members fs ms >>= λ ws. Ok ((k, v) ∷ ws)) ≡ failed f
       → FaultyMember fs (member k d ms) f
   key_faulty fs k d ms f rest (Some t) is e = value_faulty fs k d ms t f (declared_is fs k t is) rest (typed_value t d) refl e
   key_faulty fs k d ms f rest None is e = subst (FaultyMember fs (member k d ms)) (err_is Undeclared f e) (says.undeclared k d ms (absent fs k is))
 
-  faulty_is : (fs : CedarFields) (ms : Members) (f : ValueFault) → typed_members fs ms ≡ failed f → FaultyMember fs ms f
+  faulty_is : (fs : CedarFields) (ms : Members) (f : EntityFault) → typed_members fs ms ≡ failed f → FaultyMember fs ms f
   unfolding typed_value
   faulty_is fs no_members f e = absurd (never [] f e)
   faulty_is fs (member k d ms) f e = key_faulty fs k d ms f (faulty_is fs ms) (declared_at k fs) refl e
@@ -181,32 +207,32 @@ module _ (names : Names) where
   unfolding typed_value
   wrong_step fs k d ms t here e = rw (here, e) refl
 
-  later_step : (fs : CedarFields) (k : List ℕ) (d : Data) (ms : Members) (f : ValueFault) (t : Cedar) (v : PlainValue) → declared_at k fs ≡ Some t → typed_value t d ≡ done v
+  later_step : (fs : CedarFields) (k : List ℕ) (d : Data) (ms : Members) (f : EntityFault) (t : Cedar) (v : PlainValue) → declared_at k fs ≡ Some t → typed_value t d ≡ done v
       → typed_members fs ms ≡ failed f → typed_members fs (member k d ms) ≡ failed f
   unfolding typed_value
   later_step fs k d ms f t v here one e = rw (here, one, e) refl
 
-  is_faulty : (fs : CedarFields) (ms : Members) (f : ValueFault) → FaultyMember fs ms f → typed_members fs ms ≡ failed f
+  is_faulty : (fs : CedarFields) (ms : Members) (f : EntityFault) → FaultyMember fs ms f → typed_members fs ms ≡ failed f
   is_faulty fs ms f (says.undeclared k d ns none) = undeclared_step fs k d ns (undeclared_by fs k none (declared_at k fs) refl)
   is_faulty fs ms f (says.wrong_type k d ns t here none) = wrong_step fs k d ns t (is_declared fs k t here) (no_value t d none)
   is_faulty fs ms f (says.later_fault k d ns g t v here h rest) = later_step fs k d ns g t v (is_declared fs k t here) (is_value names t d v h) (is_faulty fs ns g rest)
 
   -- ---- records
 
-  missing_by : (fs : CedarFields) (ms : Members) (vs : List Field) (f : ValueFault) → ReadMembers fs ms vs → (b : Bool) → all_there fs (json.object ms) ≡ b
+  missing_by : (fs : CedarFields) (ms : Members) (vs : List Field) (f : EntityFault) → ReadMembers fs ms vs → (b : Bool) → all_there fs (json.object ms) ≡ b
       → (demand Missing b >>= λ u. done vs) ≡ failed f → RefusesRecord (type.record_of fs) ms f
   missing_by fs ms vs f read true is e = absurd (never vs f e)
   missing_by fs ms vs f read false is e = subst (RefusesRecord (type.record_of fs) ms) (err_is Missing f e) (says.missing fs ms vs read (lacks fs ms is))
 
-  record_by : (fs : CedarFields) (ms : Members) (f : ValueFault) → (r : Result (List Field) ValueFault) → typed_members fs ms ≡ r
+  record_by : (fs : CedarFields) (ms : Members) (f : EntityFault) → (r : Result (List Field) EntityFault) → typed_members fs ms ≡ r
       → (r >>= λ vs. demand Missing (all_there fs (json.object ms)) >>= λ u. done vs) ≡ failed f → RefusesRecord (type.record_of fs) ms f
   record_by fs ms f (Ok vs) is e = missing_by fs ms vs f (members_are names fs ms vs is) (all_there fs (json.object ms)) refl e
   record_by fs ms f (Err g) is e = subst (RefusesRecord (type.record_of fs) ms) (err_is g f e) (says.faulty fs ms g (faulty_is fs ms g is))
 
-  other_type : (t : Cedar) (ms : Members) (f : ValueFault) → ((fields : CedarFields) → t ≡ type.record_of fields → ⊥) → failed {A = List Field} WrongType ≡ failed f → RefusesRecord t ms f
+  other_type : (t : Cedar) (ms : Members) (f : EntityFault) → ((fields : CedarFields) → t ≡ type.record_of fields → ⊥) → failed {A = List Field} WrongType ≡ failed f → RefusesRecord t ms f
   other_type t ms f none e = subst (RefusesRecord t ms) (err_is WrongType f e) (says.no_record t ms none)
 
-  refused_is : (t : Cedar) (ms : Members) (f : ValueFault) → record_in t (json.object ms) ≡ failed f → RefusesRecord t ms f
+  refused_is : (t : Cedar) (ms : Members) (f : EntityFault) → record_in t (json.object ms) ≡ failed f → RefusesRecord t ms f
   unfolding record_in
   refused_is type.text ms f e = other_type type.text ms f (λ fs h. absurd cc) e
   refused_is type.long ms f e = other_type type.long ms f (λ fs h. absurd cc) e
@@ -228,7 +254,7 @@ module _ (names : Names) where
   no_record_step (type.record_of fs) ms none = absurd (none fs refl)
   no_record_step (type.entity name) ms none = refl
 
-  faulty_step : (fs : CedarFields) (ms : Members) (f : ValueFault) → typed_members fs ms ≡ failed f → record_in (type.record_of fs) (json.object ms) ≡ failed f
+  faulty_step : (fs : CedarFields) (ms : Members) (f : EntityFault) → typed_members fs ms ≡ failed f → record_in (type.record_of fs) (json.object ms) ≡ failed f
   unfolding record_in
   faulty_step fs ms f e = rw e refl
 
@@ -240,7 +266,7 @@ module _ (names : Names) where
   unfolding record_in
   read_step fs ms vs e there = rw (e, there) refl
 
-  is_refused : (t : Cedar) (ms : Members) (f : ValueFault) → RefusesRecord t ms f → record_in t (json.object ms) ≡ failed f
+  is_refused : (t : Cedar) (ms : Members) (f : EntityFault) → RefusesRecord t ms f → record_in t (json.object ms) ≡ failed f
   is_refused t ms f (says.no_record u ns none) = no_record_step u ns none
   is_refused t ms f (says.faulty fs ns g h) = faulty_step fs ns g (is_faulty fs ns g h)
   is_refused t ms f (says.missing fs ns stated read lack) = missing_step fs ns stated (are_members names fs ns stated read) (is_lacking fs ns lack)

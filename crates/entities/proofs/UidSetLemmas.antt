@@ -1,13 +1,12 @@
 -- Uids in ascending order, each once.
-use Rattle.std.proofs.Common.{◌≡◌, ◌∙◌, ◌↔◌, List, [], ◌∷◌, Less, refl, ap}
-use Rattle.std.specs.List.{AllByRecursion, Contains}
+use Rattle.std.proofs.Common.{◌≡◌, ◌∙◌, List, [], ◌∷◌, Less, refl, ap}
+use Rattle.std.specs.List.{AllByRecursion}
 use Rattle.std.specs.List.Sorted.{IsStrictlySortedBy}
 use Rattle.values.specs.declared.entity_uid.EntityUid.{EntityUid}
 use Rattle.values.specs.Names.{uid_cmp}
 use Rattle.entity_data.specs.ancestor_search.Hierarchy.{IsAscending}
-use Rattle.entity_data.specs.Listing.{set_has}
 use Rattle.entity_data.specs.UidSets.{put_uid, uid_set}
-use Rattle.entity_data.proofs.UidLemmas.{all_put, set_from}
+use Rattle.entity_data.proofs.UidLemmas.{all_put}
 
 -- ---- what holds of each
 
@@ -25,8 +24,3 @@ pub set_same : (us : List EntityUid) → IsAscending us → uid_set us ≡ us
 unfolding IsStrictlySortedBy
 set_same [] s = refl
 set_same (u ∷ us) s = ap (put_uid u) (set_same us s.1) ∙ put_first u us s.0
-
--- ---- it has the same members
-
-pub same_members : (us : List EntityUid) (x : EntityUid) → Contains us x ↔ Contains (uid_set us) x
-same_members us x = (set_has us x, set_from us x)

@@ -23,8 +23,8 @@ use Rattle.values.proofs.of_extensions.CanonicalNetworks.{one_network, network_r
 use Rattle.values.proofs.of_extensions.CanonicalDecimals.{reads_back}
 use Rattle.values.specs.declared.entity_uid.EntityUid.{EntityUid}
 use Rattle.values.specs.Values.{PlainValue, boolean, long, text, entity, decimal, ipaddr}
-use Rattle.entities.specs.declared.value_fault.ValueFault.{ValueFault}
-use Rattle.entities.specs.declared.value_fault.ValueFault.TheVariants.{WrongType}
+use Rattle.entities.specs.declared.fault.EntityFault.{EntityFault}
+use Rattle.entities.specs.declared.fault.EntityFault.TheVariants.{WrongType}
 use Rattle.values.specs.extensions.Decided.{Decided, witness}
 use Rattle.values.specs.extensions.TextsDecided.{decimal_text_decided, network_text_decided, decimal_of, network_of}
 use Rattle.schema_types.specs.Cedar as cedar
@@ -36,13 +36,13 @@ use Rattle.values.specs.Paths.{is_path}
 use Rattle.entities.specs.CanonicalValues.{call_json, value_json}
 use Rattle.entities.proofs.NetworksFit.{network_fits}
 
-abbrev pub done : {A : Type 0} → A → Result A ValueFault
+abbrev pub done : {A : Type 0} → A → Result A EntityFault
 done x = Ok x
 
 pub ok_is : {A : Type 0} (x y : A) → done x ≡ done y → x ≡ y
 ok_is x y e = cc
 
-pub some_from : {A : Type 0} (f : ValueFault) (o : Option A) (x : A) → or_fault f o ≡ done x → o ≡ Some x
+pub some_from : {A : Type 0} (f : EntityFault) (o : Option A) (x : A) → or_fault f o ≡ done x → o ≡ Some x
 some_from f (Some y) x e = cc
 some_from f None x e = absurd cc
 
@@ -50,7 +50,7 @@ pub some_of : {A : Type 0} (o : Option A) (x : A) → or_fault WrongType o ≡ d
 some_of o x e = some_from WrongType o x e
 
 -- what is read where a fault inside does not show
-pub inside_ok : {A : Type 0} (r : Result A ValueFault) (x : A) → inside r ≡ done x → r ≡ Ok x
+pub inside_ok : {A : Type 0} (r : Result A EntityFault) (x : A) → inside r ≡ done x → r ≡ Ok x
 inside_ok (Ok y) x e = e
 inside_ok (Err f) x e = absurd cc
 

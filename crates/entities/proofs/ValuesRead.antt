@@ -9,8 +9,8 @@ use Rattle.values.specs.Values.{PlainValue, values_of, fields_of}
 use Rattle.values.specs.Fields.{Field}
 use Rattle.values.specs.Sets.{set_list}
 use Rattle.values.proofs.Unique.{set_of, set_of_is}
-use Rattle.entities.specs.declared.value_fault.ValueFault.{ValueFault}
-use Rattle.entities.specs.declared.value_fault.ValueFault.TheVariants.{WrongType, Undeclared}
+use Rattle.entities.specs.declared.fault.EntityFault.{EntityFault}
+use Rattle.entities.specs.declared.fault.EntityFault.TheVariants.{WrongType, Undeclared}
 use Rattle.schema_types.specs.Cedar as type
 use Rattle.schema_types.specs.Cedar.{Cedar, CedarFields}
 use Rattle.entities.specs.Parts.{declared_at}
@@ -21,7 +21,7 @@ use Rattle.entities.proofs.ReadingSteps.{done, ok_is, some_of, passes}
 use Rattle.entities.proofs.Leaves.{Names, leaf_is, is_long_value, is_entity_value, is_decimal_value, is_ipaddr_value}
 use Rattle.entities.proofs.Fields.{declared_is, is_declared, required_is, is_required}
 
-inside_ok : {A : Type 0} (r : Result A ValueFault) (x : A) → inside r ≡ done x → r ≡ Ok x
+inside_ok : {A : Type 0} (r : Result A EntityFault) (x : A) → inside r ≡ done x → r ≡ Ok x
 inside_ok (Ok y) x e = e
 inside_ok (Err f) x e = absurd cc
 

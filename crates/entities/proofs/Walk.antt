@@ -12,8 +12,9 @@ use Rattle.json_words.specs.ReadsAs.{◌>>=◌, Fails}
 use Rattle.values.specs.Values.{PlainValue}
 use Rattle.values.specs.Fields.{Field, put}
 use Rattle.values.specs.Uids.{text_cmp, text_cmp-IsTotalOrder}
-use Rattle.entities.specs.declared.value_fault.ValueFault.{ValueFault}
-use Rattle.entities.specs.declared.value_fault.ValueFault.TheVariants.{NoMemory, WrongType, Undeclared, Missing}
+use Rattle.entities.specs.declared.fault.EntityFault.{EntityFault}
+use Rattle.entities.specs.declared.fault.EntityFault.TheVariants.{NoMemory, BadShape, UnknownType, ActionEntity, Undeclared}
+use Rattle.entities.specs.declared.fault.EntityFault.TheVariants.{Missing, WrongType, BadParent, SelfParent, TagsLeftOut, NotApplicable}
 use Rattle.schema_types.specs.Cedar.{Cedar, CedarFields}
 use Rattle.entities.specs.Parts.{declared_at}
 use Rattle.entities.specs.Typing.{inside, typed_value, typed_items, typed_members}
@@ -39,19 +40,19 @@ ends front first rest total memory e one so_far = λ other. so_far ∙ rw (one o
 cut : (vs : List Value) (i : ℕ) (v : Value) → i < length vs → v ≡ get_or vs i v → drop i vs ≡ v ∷ drop (i + 1) vs
 cut vs i v lt at = drop_more vs i v lt ∙ ap (λ (w : Value). w ∷ drop (i + 1) vs) (sym at)
 
-pub item_goes : (t : Cedar) (vs : List Value) (i : ℕ) (v : Value) (front : List PlainValue) (y : PlainValue) (total : Result (List PlainValue) ValueFault) → i < length vs → v ≡ get_or vs i v → typed_value t (view v) ≡ Ok y
+pub item_goes : (t : Cedar) (vs : List Value) (i : ℕ) (v : Value) (front : List PlainValue) (y : PlainValue) (total : Result (List PlainValue) EntityFault) → i < length vs → v ≡ get_or vs i v → typed_value t (view v) ≡ Ok y
     → total ≡ with_front front (typed_items t (items_view (drop i vs))) → total ≡ with_front (front ++ y ∷ []) (typed_items t (items_view (drop (i + 1) vs)))
 unfolding typed_value
 item_goes t vs i v front y total lt at one so_far =
     goes_on front y (typed_value t (view v)) (typed_items t (items_view (drop (i + 1) vs))) total one (so_far ∙ ap (λ (l : List Value). with_front front (typed_items t (items_view l))) (cut vs i v lt at))
 
-pub item_ends : (t : Cedar) (vs : List Value) (i : ℕ) (v : Value) (front : List PlainValue) (total : Result (List PlainValue) ValueFault) (e : ValueFault) → i < length vs → v ≡ get_or vs i v → Fails NoMemory e (typed_value t (view v))
+pub item_ends : (t : Cedar) (vs : List Value) (i : ℕ) (v : Value) (front : List PlainValue) (total : Result (List PlainValue) EntityFault) (e : EntityFault) → i < length vs → v ≡ get_or vs i v → Fails NoMemory e (typed_value t (view v))
     → total ≡ with_front front (typed_items t (items_view (drop i vs))) → Fails NoMemory e total
 unfolding typed_value
 item_ends t vs i v front total e lt at one so_far =
     ends front (typed_value t (view v)) (typed_items t (items_view (drop (i + 1) vs))) total NoMemory e one (so_far ∙ ap (λ (l : List Value). with_front front (typed_items t (items_view l))) (cut vs i v lt at))
 
-pub items_done : (t : Cedar) (vs : List Value) (n : ℕ) (front : List PlainValue) (total : Result (List PlainValue) ValueFault) → length vs ≤ n
+pub items_done : (t : Cedar) (vs : List Value) (n : ℕ) (front : List PlainValue) (total : Result (List PlainValue) EntityFault) → length vs ≤ n
     → total ≡ with_front front (typed_items t (items_view (drop n vs))) → total ≡ Ok front
 unfolding typed_value
 items_done t vs n front total le so_far =
@@ -106,25 +107,25 @@ pub next_ordered : (fs : List Field) (e : Entry) (left : List Entry) (v : PlainV
 unfolding IsStrictlySortedBy
 next_ordered fs e left v h = (h.0.1, behind_push fs e.0 v left h.1.1 h.0.0)
 
-pub member_goes : (fs : CedarFields) (e : Entry) (left : List Entry) (t : Cedar) (front : List Field) (y : PlainValue) (total : Result (List Field) ValueFault)
+pub member_goes : (fs : CedarFields) (e : Entry) (left : List Entry) (t : Cedar) (front : List Field) (y : PlainValue) (total : Result (List Field) EntityFault)
     → Some t ≡ declared_at (string_bytes e.0) fs → typed_value t (view e.1) ≡ Ok y
     → total ≡ with_front front (typed_members fs (members_view (e ∷ left))) → total ≡ with_front (front ++ (string_bytes e.0, y) ∷ []) (typed_members fs (members_view left))
 unfolding typed_value
 member_goes fs e left t front y total here one so_far =
     goes_on front (string_bytes e.0, y) (Ok (string_bytes e.0, y)) (typed_members fs (members_view left)) total refl (so_far ∙ rw (← here, one) refl)
 
-pub member_ends : (fs : CedarFields) (e : Entry) (left : List Entry) (t : Cedar) (front : List Field) (total : Result (List Field) ValueFault) (f : ValueFault)
+pub member_ends : (fs : CedarFields) (e : Entry) (left : List Entry) (t : Cedar) (front : List Field) (total : Result (List Field) EntityFault) (f : EntityFault)
     → Some t ≡ declared_at (string_bytes e.0) fs → Fails NoMemory f (typed_value t (view e.1))
     → total ≡ with_front front (typed_members fs (members_view (e ∷ left))) → Fails NoMemory f total
 unfolding typed_value
 member_ends fs e left t front total f here one so_far = λ other. so_far ∙ rw (← here, one other) refl
 
-pub member_unknown : (fs : CedarFields) (e : Entry) (left : List Entry) (front : List Field) (total : Result (List Field) ValueFault)
+pub member_unknown : (fs : CedarFields) (e : Entry) (left : List Entry) (front : List Field) (total : Result (List Field) EntityFault)
     → None ≡ declared_at (string_bytes e.0) fs → total ≡ with_front front (typed_members fs (members_view (e ∷ left))) → total ≡ Err Undeclared
 unfolding typed_value
 member_unknown fs e left front total here so_far = so_far ∙ rw (← here) refl
 
-pub members_done : (fs : CedarFields) (front : List Field) (total : Result (List Field) ValueFault) → total ≡ with_front front (typed_members fs (members_view [])) → total ≡ Ok front
+pub members_done : (fs : CedarFields) (front : List Field) (total : Result (List Field) EntityFault) → total ≡ with_front front (typed_members fs (members_view [])) → total ≡ Ok front
 unfolding typed_value
 members_done fs front total so_far = so_far ∙ ap (λ (l : List Field). Ok l) (append-nil front)
 
@@ -137,8 +138,15 @@ pub pushed : (fs gs : List Field) (e : Entry) (left : List Entry) (k : List ℕ)
 pushed fs gs e left k v set named h = set ∙ ap (λ (l : List ℕ). put l v fs) named ∙ next_put fs e left v h
 
 -- a fault inside, which is told of the whole
-pub inside_fails : {A B : Type 0} (read : Result A ValueFault) (f : A → Result B ValueFault) (e : ValueFault) → Fails NoMemory e read → Fails NoMemory (inside_fault e) (inside read >>= f)
+pub inside_fails : {A B : Type 0} (read : Result A EntityFault) (f : A → Result B EntityFault) (e : EntityFault) → Fails NoMemory e read → Fails NoMemory (inside_fault e) (inside read >>= f)
 inside_fails read f NoMemory fails = λ other. absurd (other refl)
-inside_fails read f WrongType fails = λ other. let here : read ≡ Err WrongType = fails (λ same. absurd cc) in rw here refl
+inside_fails read f BadShape fails = λ other. let here : read ≡ Err BadShape = fails (λ same. absurd cc) in rw here refl
+inside_fails read f UnknownType fails = λ other. let here : read ≡ Err UnknownType = fails (λ same. absurd cc) in rw here refl
+inside_fails read f ActionEntity fails = λ other. let here : read ≡ Err ActionEntity = fails (λ same. absurd cc) in rw here refl
 inside_fails read f Undeclared fails = λ other. let here : read ≡ Err Undeclared = fails (λ same. absurd cc) in rw here refl
 inside_fails read f Missing fails = λ other. let here : read ≡ Err Missing = fails (λ same. absurd cc) in rw here refl
+inside_fails read f WrongType fails = λ other. let here : read ≡ Err WrongType = fails (λ same. absurd cc) in rw here refl
+inside_fails read f BadParent fails = λ other. let here : read ≡ Err BadParent = fails (λ same. absurd cc) in rw here refl
+inside_fails read f SelfParent fails = λ other. let here : read ≡ Err SelfParent = fails (λ same. absurd cc) in rw here refl
+inside_fails read f TagsLeftOut fails = λ other. let here : read ≡ Err TagsLeftOut = fails (λ same. absurd cc) in rw here refl
+inside_fails read f NotApplicable fails = λ other. let here : read ≡ Err NotApplicable = fails (λ same. absurd cc) in rw here refl

@@ -1,7 +1,6 @@
 -- Defines the canonical JSON and the canonical text of an entity.
 -- Rules of this product: the text is compact, with ascending keys; the uid and the parents are {"id", "type"}; the
--- parents are in their order, which ascends if the entity was parsed under a schema; each attribute has its canonical
--- JSON.
+-- parents are in their order, which ascends in each entity; each attribute has its canonical JSON.
 use Rattle.std.specs.Prelude.{ℕ, List, map, codes}
 use Rattle.serde_json.specs.Data.{Data, object, array, no_members, member}
 use Rattle.serde_json.specs.View.{items_of}

@@ -15,7 +15,6 @@ use Rattle.schema.specs.Schemas.{EnvironmentOf, StatedSchema}
 use Rattle.entities.specs.Typing.{record_in}
 use Rattle.entities.specs.declared.fault.EntityFault.{EntityFault}
 use Rattle.entities.specs.declared.fault.EntityFault.TheVariants.{BadShape, NotApplicable}
-use Rattle.entities.specs.Faults.{with_entity_fault}
 
 -- `context_where passes es` is the type of the context in the first of the environments `es` with a place that `passes`
 -- accepts; `None` if `passes` accepts none of their places. The place of an environment, an `EnvironmentKey`, is its
@@ -39,4 +38,4 @@ unfoldable pub context_in : StatedSchema → EntityUid → Data → Result (List
 context_in s action d = do
   shape ← demand BadShape (is_some (as_object d))
   type ← or_fault NotApplicable (context_where (is_of_action action) s.environments)
-  with_entity_fault (record_in type d)
+  record_in type d

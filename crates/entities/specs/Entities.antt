@@ -19,7 +19,6 @@ use Rattle.entities.specs.declared.fault.EntityFault.{EntityFault}
 use Rattle.entities.specs.declared.fault.EntityFault.TheVariants.{UnknownType, ActionEntity, BadParent, SelfParent}
 use Rattle.entities.specs.declared.fault.EntityFault.TheVariants.{TagsLeftOut}
 use Rattle.entity_data.specs.declared.entity.Entity.{Entity}
-use Rattle.entities.specs.Faults.{with_entity_fault}
 use Rattle.entities.specs.EntityForms.{is_absent_or_empty, or_empty, stated_in}
 use Rattle.entity_data.specs.UidSets.{uid_set}
 
@@ -40,7 +39,7 @@ unfoldable pub attributes_in : StatedSchema → List ℕ → Data → Result (Li
 attributes_in s name d = do
   shape ← shape_of s name
   untagged ← demand TagsLeftOut (is_absent_or_empty (get (codes "tags") d))
-  with_entity_fault (record_in shape (or_empty (get (codes "attrs") d)))
+  record_in shape (or_empty (get (codes "attrs") d))
 
 -- `parent_fits s uid parent` checks that the entity `uid` may have the parent `parent` under the schema `s`: the error
 -- is `SelfParent` if they are the same entity, else `BadParent` if `s` does not allow a parent of this type.

@@ -40,10 +40,6 @@ CanonicalIsOne = (s : StatedSchema) (d other : Data) (e f : Entity) → entity_s
     → entity_stated_in s other ≡ Ok f
     → canonical_json e ≡ canonical_json f → e ≡ f
 
--- `ParentsAscend`: the parents of a parsed entity ascend strictly.
-abbrev pub ParentsAscend : Type 0
-ParentsAscend = (s : StatedSchema) (d : Data) (e : Entity) → entity_stated_in s d ≡ Ok e → IsAscending e.parents
-
 -- `SetsHoldTheirMembers`: the list `uid_set us` ascends strictly, and has exactly the uids of `us`.
 abbrev pub SetsHoldTheirMembers : Type 0
 SetsHoldTheirMembers = (us : List EntityUid) → IsAscending (uid_set us)

@@ -5,14 +5,13 @@ use Rattle.serde_json.specs.Data.{Data, Members, object}
 use Rattle.values.specs.Values.{PlainValue, record_of, fields_of}
 use Rattle.values.specs.Fields.{Field}
 use Rattle.schema_types.specs.Cedar.{Cedar}
-use Rattle.entities.specs.declared.value_fault.ValueFault.{ValueFault}
-use Rattle.entities.specs.declared.value_fault.ValueFault.TheVariants.{WrongType}
+use Rattle.entities.specs.declared.fault.EntityFault.{EntityFault}
+use Rattle.entities.specs.declared.fault.EntityFault.TheVariants.{WrongType}
 use Rattle.entities.specs.Typing.{typed_value, record_in}
 use Rattle.schema.specs.Schemas.{StatedSchema}
 use Rattle.entities.specs.Entities.{entity_stated_in}
 use Rattle.entities.specs.Contexts.{context_in}
 use Rattle.entities.specs.Requests.{ParsesRequest, RequestRefused}
-use Rattle.entities.specs.declared.fault.EntityFault.{EntityFault}
 use Rattle.values.specs.declared.entity_uid.EntityUid.{EntityUid}
 use Rattle.values.specs.declared.request.Request.{Request}
 use Rattle.entities.specs.StatedValues.{Reads, RefusesRecord}
@@ -46,7 +45,7 @@ RecordsAreRead = (t : Cedar) (ms : Members) (fs : List Field)
 -- `RecordsAreRefused`: `record_in` gives the error `fault` for an object if and only if `fault` is the first error of
 -- the object as a record of the type `t`.
 abbrev pub RecordsAreRefused : Type 0
-RecordsAreRefused = (t : Cedar) (ms : Members) (fault : ValueFault)
+RecordsAreRefused = (t : Cedar) (ms : Members) (fault : EntityFault)
     → (record_in t (object ms) ≡ Err fault) ↔ RefusesRecord t ms fault
 
 -- ---- entities

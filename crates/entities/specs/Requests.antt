@@ -17,7 +17,6 @@ use Rattle.entities.specs.Typing.{record_in}
 use Rattle.entities.specs.declared.fault.EntityFault.{EntityFault}
 use Rattle.entities.specs.declared.fault.EntityFault.TheVariants.{BadShape, NotApplicable}
 use Rattle.entities.specs.declared.requests.Asked.{Asked}
-use Rattle.entities.specs.Faults.{with_entity_fault}
 use Rattle.entities.specs.EntityForms.{is_absent_or_object, or_empty}
 use Rattle.entities.specs.Contexts.{context_where, is_place}
 
@@ -39,7 +38,7 @@ unfoldable pub context_asked : StatedSchema → Asked → Data → Result (List 
 context_asked s asked d = do
   type ← or_fault NotApplicable
       (context_where (is_place asked.action asked.principal.type_name asked.resource.type_name) s.environments)
-  with_entity_fault (record_in type (or_empty (get (codes "context") d)))
+  record_in type (or_empty (get (codes "context") d))
 
 -- `asked_by q` are the principal, action and resource of the request `q`.
 abbrev pub asked_by : Request → Asked

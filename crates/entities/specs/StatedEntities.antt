@@ -11,16 +11,13 @@ use Rattle.values.specs.Fields.{Field}
 use Rattle.values.specs.Values.{record_of, fields_of}
 use Rattle.values.specs.declared.entity_uid.EntityUid.{EntityUid}
 use Rattle.entity_uids.specs.Uids.{IsUid}
-use Rattle.entities.specs.declared.value_fault.ValueFault.{ValueFault}
-use Rattle.entities.specs.declared.value_fault.ValueFault.TheVariants as value
+use Rattle.entities.specs.declared.fault.EntityFault.{EntityFault}
 use Rattle.entity_data.specs.ancestor_search.Hierarchy.{IsAscending}
 use Rattle.entity_data.specs.declared.entity.Entity.{Entity}
 use Rattle.schema_types.specs.Cedar.{Cedar}
 use Rattle.schema.specs.Schemas.{StatedSchema}
 use Rattle.schema.specs.WellFormed.{IsActionType}
-use Rattle.entities.specs.declared.fault.EntityFault.{EntityFault}
 use Rattle.entities.specs.declared.fault.EntityFault.TheVariants.{BadShape, UnknownType, ActionEntity, TagsLeftOut}
-use Rattle.entities.specs.declared.fault.EntityFault.TheVariants.{Undeclared, Missing, WrongType}
 use Rattle.entities.specs.declared.fault.EntityFault.TheVariants.{BadParent, SelfParent}
 use Rattle.entities.specs.StatedValues.{Reads, RefusesRecord}
 
@@ -93,13 +90,6 @@ pub data RefusesParents (s : StatedSchema) (uid : EntityUid) : List EntityUid �
   later_parent : (parent : EntityUid) (more : List EntityUid) (fault : EntityFault) → MayHaveParent s uid parent
       → RefusesParents s uid more fault → RefusesParents s uid (parent ∷ more) fault
 
--- `IsReportedAs f fault` holds if the error `f` of a record, other than `NoMemory`, is reported as the error `fault` of
--- an entity, a context or a request.
-pub data IsReportedAs : ValueFault → EntityFault → Type 0 where
-  as_undeclared : IsReportedAs value.Undeclared Undeclared
-  as_wrong_type : IsReportedAs value.WrongType WrongType
-  as_missing : IsReportedAs value.Missing Missing
-
 -- `RefusesEntity s d fault` holds if `d` describes no entity under the schema `s`, and `fault` is the first error, in
 -- this order: of the form, of the type (`ActionEntity` before `UnknownType`), of the tags, of the attributes, and
 -- of the parents.
@@ -114,9 +104,9 @@ pub data RefusesEntity (s : StatedSchema) (d : Data) : EntityFault → Type 0 wh
   tags_left_out : (uid : EntityUid) (listed : List EntityUid) (attributes tags : Members) (shape : Cedar)
       → HasForm d uid listed attributes tags → HasShape s uid.type_name shape → (tags ≡ no_members → ⊥)
       → RefusesEntity s d TagsLeftOut
-  bad_attributes : (uid : EntityUid) (listed : List EntityUid) (attributes : Members) (shape : Cedar) (f : ValueFault)
+  bad_attributes : (uid : EntityUid) (listed : List EntityUid) (attributes : Members) (shape : Cedar)
       (fault : EntityFault) → HasForm d uid listed attributes no_members → HasShape s uid.type_name shape
-      → RefusesRecord shape attributes f → IsReportedAs f fault → RefusesEntity s d fault
+      → RefusesRecord shape attributes fault → RefusesEntity s d fault
   bad_parents : (uid : EntityUid) (listed : List EntityUid) (attributes : Members) (shape : Cedar) (attrs : List Field)
       (fault : EntityFault) → HasForm d uid listed attributes no_members → HasShape s uid.type_name shape
       → Reads shape (object attributes) (record_of (fields_of attrs)) → RefusesParents s uid listed fault

@@ -9,16 +9,15 @@ use Rattle.values.specs.Fields.{Field}
 use Rattle.values.specs.Values.{record_of, fields_of}
 use Rattle.values.specs.declared.entity_uid.EntityUid.{EntityUid}
 use Rattle.values.specs.declared.request.Request.{Request}
-use Rattle.entities.specs.declared.value_fault.ValueFault.{ValueFault}
+use Rattle.entities.specs.declared.fault.EntityFault.{EntityFault}
 use Rattle.schema_types.specs.Cedar.{Cedar}
 use Rattle.schema.specs.declared.parts.EnvironmentKey.{EnvironmentKey}
 use Rattle.schema.specs.Schemas.{EnvironmentOf, StatedSchema}
-use Rattle.entities.specs.declared.fault.EntityFault.{EntityFault}
 use Rattle.entities.specs.declared.fault.EntityFault.TheVariants.{BadShape, NotApplicable}
 use Rattle.entities.specs.declared.requests.Asked.{Asked}
 use Rattle.entities.specs.Requests.{NamesAt, asked_by}
 use Rattle.entities.specs.StatedValues.{Reads, RefusesRecord}
-use Rattle.entities.specs.StatedEntities.{ObjectAt, IsReportedAs}
+use Rattle.entities.specs.StatedEntities.{ObjectAt}
 
 -- ---- the context of an action
 
@@ -55,8 +54,8 @@ pub record ReadsContext (IsPlace : EnvironmentKey → Type 0) (s : StatedSchema)
 -- record of the context's type.
 pub data FailsContext (IsPlace : EnvironmentKey → Type 0) (s : StatedSchema) (ms : Members) : EntityFault → Type 0 where
   not_applicable : ((t : Cedar) → HasContext IsPlace s.environments t → ⊥) → FailsContext IsPlace s ms NotApplicable
-  bad_fields : (t : Cedar) (f : ValueFault) (fault : EntityFault) → HasContext IsPlace s.environments t
-      → RefusesRecord t ms f → IsReportedAs f fault → FailsContext IsPlace s ms fault
+  bad_fields : (t : Cedar) (fault : EntityFault) → HasContext IsPlace s.environments t → RefusesRecord t ms fault
+      → FailsContext IsPlace s ms fault
 
 -- `DescribesContext s action d fields` holds if `d` is an object that describes the context `fields` of `action` under
 -- the schema `s`.

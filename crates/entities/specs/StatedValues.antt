@@ -18,8 +18,8 @@ use Rattle.values.specs.extensions.Network.{Network}
 use Rattle.values.specs.extensions.DecimalText.{IsDecimalText}
 use Rattle.values.specs.extensions.NetworkText.{IsNetworkText}
 use Rattle.entity_uids.specs.Uids.{IsUid}
-use Rattle.entities.specs.declared.value_fault.ValueFault.{ValueFault}
-use Rattle.entities.specs.declared.value_fault.ValueFault.TheVariants.{WrongType, Undeclared, Missing}
+use Rattle.entities.specs.declared.fault.EntityFault.{EntityFault}
+use Rattle.entities.specs.declared.fault.EntityFault.TheVariants.{WrongType, Undeclared, Missing}
 use Rattle.schema_types.specs.Cedar as type
 use Rattle.schema_types.specs.Cedar.{Cedar, CedarFields}
 
@@ -105,12 +105,12 @@ mutual
 -- `FaultyMember fields ms fault` holds if `fault` is the error of the first faulty member of `ms`: its key is not
 -- declared in `fields`, or its JSON describes no value of the type declared for it. (In parsed JSON, members ascend by
 -- key.)
-pub data FaultyMember (fields : CedarFields) : Members → ValueFault → Type 0 where
+pub data FaultyMember (fields : CedarFields) : Members → EntityFault → Type 0 where
   undeclared : (key : List ℕ) (d : Data) (ms : Members) → ((t : Cedar) → Declares fields key t → ⊥)
       → FaultyMember fields (member key d ms) Undeclared
   wrong_type : (key : List ℕ) (d : Data) (ms : Members) (t : Cedar) → Declares fields key t
       → ((v : PlainValue) → Reads t d v → ⊥) → FaultyMember fields (member key d ms) WrongType
-  later_fault : (key : List ℕ) (d : Data) (ms : Members) (fault : ValueFault) (t : Cedar) (v : PlainValue)
+  later_fault : (key : List ℕ) (d : Data) (ms : Members) (fault : EntityFault) (t : Cedar) (v : PlainValue)
       → Declares fields key t → Reads t d v → FaultyMember fields ms fault
       → FaultyMember fields (member key d ms) fault
 
@@ -120,10 +120,10 @@ LacksRequired fields ms = (key : List ℕ) × Requires fields key × (HasKey ms 
 
 -- `RefusesRecord t ms fault` holds if the object with the members `ms` describes no record of the type `t`, with the
 -- error `fault`: an error of a member comes before a missing key. A type that is not a record type has no records.
-pub data RefusesRecord : Cedar → Members → ValueFault → Type 0 where
+pub data RefusesRecord : Cedar → Members → EntityFault → Type 0 where
   no_record : (t : Cedar) (ms : Members) → ((fields : CedarFields) → t ≡ type.record_of fields → ⊥)
       → RefusesRecord t ms WrongType
-  faulty : (fields : CedarFields) (ms : Members) (fault : ValueFault) → FaultyMember fields ms fault
+  faulty : (fields : CedarFields) (ms : Members) (fault : EntityFault) → FaultyMember fields ms fault
       → RefusesRecord (type.record_of fields) ms fault
   missing : (fields : CedarFields) (ms : Members) (stated : List Field) → ReadMembers fields ms stated
       → LacksRequired fields ms → RefusesRecord (type.record_of fields) ms Missing

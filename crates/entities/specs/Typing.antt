@@ -14,8 +14,8 @@ use Rattle.json_words.specs.Json.{text_at}
 use Rattle.values.specs.Values.{PlainValue, boolean, long, text, entity, set, record_of, decimal, ipaddr}
 use Rattle.values.specs.Values.{values_of, fields_of}
 use Rattle.values.specs.Sets.{set_list}
-use Rattle.entities.specs.declared.value_fault.ValueFault.{ValueFault}
-use Rattle.entities.specs.declared.value_fault.ValueFault.TheVariants.{WrongType, Undeclared, Missing}
+use Rattle.entities.specs.declared.fault.EntityFault.{EntityFault}
+use Rattle.entities.specs.declared.fault.EntityFault.TheVariants.{WrongType, Undeclared, Missing}
 use Rattle.entity_uids.specs.Uids.{uid_in}
 use Rattle.values.specs.extensions.TextsDecided.{decimal_of, network_of}
 use Rattle.schema_types.specs.Cedar as cedar
@@ -24,14 +24,14 @@ use Rattle.entities.specs.Parts.{element_of, fields_in, declared_at}
 
 -- `under_key k d o` is `d` if `o` is `None`. Else it is the value in `o` if `k` is the only key of `d`, and `WrongType`
 -- if not. Here `o` is the value that `d` has at `k`, if any.
-abbrev pub under_key : List ℕ → Data → Option Data → Result Data ValueFault
+abbrev pub under_key : List ℕ → Data → Option Data → Result Data EntityFault
 under_key k d None = Ok d
 under_key k d (Some inner) = do
   alone ← demand WrongType (has_only (k ∷ []) d)
   Ok inner
 
 -- `plain_call name d` is the string A if `d` is {"fn":`name`,"arg":A} without other keys, else `WrongType`.
-unfoldable pub plain_call : List ℕ → Data → Result (List ℕ) ValueFault
+unfoldable pub plain_call : List ℕ → Data → Result (List ℕ) EntityFault
 plain_call name d = do
   shape ← demand WrongType (has_only (codes "fn" ∷ codes "arg" ∷ []) d)
   given ← or_fault WrongType (text_at (codes "fn") d)
@@ -41,25 +41,25 @@ plain_call name d = do
 
 -- `call_in name d` is the argument of the call if `d` is a call of `name`, or has such a call under its only key
 -- `__extn`; else `WrongType`.
-unfoldable pub call_in : List ℕ → Data → Result (List ℕ) ValueFault
+unfoldable pub call_in : List ℕ → Data → Result (List ℕ) EntityFault
 call_in name d = do
   inner ← under_key (codes "__extn") d (get (codes "__extn") d)
   plain_call name inner
 
 -- `argument_or_call name d o` is the string in `o` or, if `o` is `None`, the argument of the call of `name` that `d`
 -- describes; else `WrongType`.
-abbrev pub argument_or_call : List ℕ → Data → Option (List ℕ) → Result (List ℕ) ValueFault
+abbrev pub argument_or_call : List ℕ → Data → Option (List ℕ) → Result (List ℕ) EntityFault
 argument_or_call name d (Some s) = Ok s
 argument_or_call name d None = call_in name d
 
 -- `argument_in name d` is the argument of the extension function `name` that `d` describes: the string `d`, or the
 -- argument of a call of `name`; else `WrongType`.
-unfoldable pub argument_in : List ℕ → Data → Result (List ℕ) ValueFault
+unfoldable pub argument_in : List ℕ → Data → Result (List ℕ) EntityFault
 argument_in name d = argument_or_call name d (as_str d)
 
 -- `boolean_in d`, `long_in d`, `text_in d`, `entity_in name d`, `decimal_in d` and `ipaddr_in d` are the boolean, the
 -- Long, the string, the entity of the type `name`, the decimal and the address that `d` describes, or `WrongType`.
-unfoldable pub boolean_in : Data → Result PlainValue ValueFault
+unfoldable pub boolean_in : Data → Result PlainValue EntityFault
 boolean_in d = do
   b ← or_fault WrongType (as_bool d)
   Ok (boolean b)
@@ -71,35 +71,35 @@ is_long (negsuc n) = nat_lt n (2 ^ 63)
 
 -- `long_of z` is the Long `z`, or `WrongType` if `z` is not a signed 64-bit integer. (For parsed bytes, `as_i64` gives
 -- only such integers.)
-abbrev pub long_of : ℤ → Result PlainValue ValueFault
+abbrev pub long_of : ℤ → Result PlainValue EntityFault
 long_of z = do
   small ← demand WrongType (is_long z)
   Ok (long z)
 
-unfoldable pub long_in : Data → Result PlainValue ValueFault
+unfoldable pub long_in : Data → Result PlainValue EntityFault
 long_in d = do
   n ← or_fault WrongType (as_number d)
   z ← or_fault WrongType (as_i64 n)
   long_of z
 
-unfoldable pub text_in : Data → Result PlainValue ValueFault
+unfoldable pub text_in : Data → Result PlainValue EntityFault
 text_in d = do
   s ← or_fault WrongType (as_str d)
   Ok (text s)
 
-unfoldable pub entity_in : List ℕ → Data → Result PlainValue ValueFault
+unfoldable pub entity_in : List ℕ → Data → Result PlainValue EntityFault
 entity_in name d = do
   u ← or_fault WrongType (uid_in d)
   same ← demand WrongType (bytes_eq u.type_name name)
   Ok (entity u)
 
-unfoldable pub decimal_in : Data → Result PlainValue ValueFault
+unfoldable pub decimal_in : Data → Result PlainValue EntityFault
 decimal_in d = do
   s ← argument_in (codes "decimal") d
   z ← or_fault WrongType (decimal_of s)
   Ok (decimal z)
 
-unfoldable pub ipaddr_in : Data → Result PlainValue ValueFault
+unfoldable pub ipaddr_in : Data → Result PlainValue EntityFault
 ipaddr_in d = do
   s ← argument_in (codes "ip") d
   n ← or_fault WrongType (network_of s)
@@ -107,7 +107,7 @@ ipaddr_in d = do
 
 -- `leaf t d` is the value of the type `t` that `d` describes, if `t` is neither a set nor a record type; else
 -- `WrongType`.
-abbrev pub leaf : Cedar → Data → Result PlainValue ValueFault
+abbrev pub leaf : Cedar → Data → Result PlainValue EntityFault
 leaf cedar.boolean d = boolean_in d
 leaf cedar.long d = long_in d
 leaf cedar.text d = text_in d
@@ -128,7 +128,7 @@ with_or (Some a) f b = f a
 with_or None f b = b
 
 -- `inside r` is `r`, with `WrongType` for any error: a value with an error inside it is a value of the wrong type.
-abbrev pub inside : {A : Type 0} → Result A ValueFault → Result A ValueFault
+abbrev pub inside : {A : Type 0} → Result A EntityFault → Result A EntityFault
 inside (Ok x) = Ok x
 inside (Err f) = Err WrongType
 
@@ -136,7 +136,7 @@ inside (Err f) = Err WrongType
 -- of the type `t` that the items `ds` of an array describe, or `WrongType`. `typed_members fs ms` are the fields that
 -- the members `ms` of an object describe by the fields `fs` of a record type, or the first error.
 unfoldable mutual
-  pub typed_value : Cedar → Data → Result PlainValue ValueFault
+  pub typed_value : Cedar → Data → Result PlainValue EntityFault
   typed_value t json.null = leaf t json.null
   typed_value t (json.boolean b) = leaf t (json.boolean b)
   typed_value t (json.number n) = leaf t (json.number n)
@@ -150,14 +150,14 @@ unfoldable mutual
       Ok (record_of (fields_of vs)))
       (leaf t (json.object ms))
 
-  pub typed_items : Cedar → Items → Result (List PlainValue) ValueFault
+  pub typed_items : Cedar → Items → Result (List PlainValue) EntityFault
   typed_items t no_items = Ok []
   typed_items t (item d ds) = do
     v ← typed_value t d
     vs ← typed_items t ds
     Ok (v ∷ vs)
 
-  pub typed_members : CedarFields → Members → Result (List (List ℕ × PlainValue)) ValueFault
+  pub typed_members : CedarFields → Members → Result (List (List ℕ × PlainValue)) EntityFault
   typed_members fs no_members = Ok []
   typed_members fs (member k d ms) = do
     t ← or_fault Undeclared (declared_at k fs)
@@ -168,7 +168,7 @@ unfoldable mutual
 -- `record_in t d` are the fields of the record of the type `t` that `d` describes, or the first error: `WrongType` if
 -- `t` is not a record type or `d` not an object; then that of the first member that is not declared or not of its
 -- declared type; then `Missing` if a required field is absent. (In parsed JSON, members ascend by key.)
-unfoldable pub record_in : Cedar → Data → Result (List (List ℕ × PlainValue)) ValueFault
+unfoldable pub record_in : Cedar → Data → Result (List (List ℕ × PlainValue)) EntityFault
 record_in t d = do
   fs ← or_fault WrongType (fields_in t)
   ms ← or_fault WrongType (as_object d)

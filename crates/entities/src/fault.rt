@@ -1,10 +1,10 @@
 //! Errors of parsing an entity, a context or a request.
 ghost use Rattle.std.specs.Prelude.{◌≡◌};
-ghost use Rattle.entities.specs.Faults.{code_of, of_value};
+ghost use Rattle.entities.specs.Faults.{code_of};
 ghost use Rattle.entities.specs.declared.fault.EntityFault.TheVariants.{NoMemory};
 
-use crate::value_fault::ValueFault;
 use plain::NoMemory;
+use std::alloc::AllocFailed;
 use thiserror::Error;
 
 /// The first error of JSON as an entity, a context or a request under a schema.
@@ -75,15 +75,10 @@ impl From<NoMemory> for EntityFault {
     }
 }
 
-impl From<ValueFault> for EntityFault {
-    ghost from_gives = { λ fault e. e ≡ of_value fault };
+impl<T: Drop> From<AllocFailed<T>> for EntityFault {
+    ghost from_gives = { λ _ e. e ≡ NoMemory };
 
-    fn from(fault: ValueFault) -> EntityFault {
-        match fault {
-            ValueFault::NoMemory => EntityFault::NoMemory,
-            ValueFault::WrongType => EntityFault::WrongType,
-            ValueFault::Undeclared => EntityFault::Undeclared,
-            ValueFault::Missing => EntityFault::Missing,
-        }
+    fn from(_error: AllocFailed<T>) -> EntityFault {
+        EntityFault::NoMemory
     }
 }

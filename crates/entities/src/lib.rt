@@ -18,8 +18,6 @@ mod reading;
 mod requests;
 mod stated;
 mod type_parts;
-mod uid_set;
-mod value_fault;
 mod value_laws;
 mod value_reading;
 mod value_writing;
@@ -38,7 +36,6 @@ pub use reading::read_entity;
 pub use requests::read_request;
 pub use stated::is_absent_or_object;
 pub use type_parts::{Field, declared_type, element_type, record_fields};
-pub use value_fault::ValueFault;
 pub use value_laws::{
     canonical_is_read, canonical_nests_within_its_type, json_is_read_again, records_are_read_again,
     values_have_no_float, written_is_read_again,
@@ -46,7 +43,9 @@ pub use value_laws::{
 pub use value_reading::{is_of_type, read_record};
 
 // of this layer
-pub use entity_data::{ActionSource, Entities, Entity, EntitySource, EntityStore, NoActions};
+pub use entity_data::{
+    ActionSource, Entities, Entity, EntitySource, EntityStore, NoActions, UidSet,
+};
 pub use entity_uids::{names_read_back, read_name, read_uid};
 
 // of lower layers

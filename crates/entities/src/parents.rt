@@ -5,7 +5,7 @@ ghost use Rattle.entities.specs.declared.fault.EntityFault.TheVariants as Entity
 ghost use Rattle.entities.specs.Entities.{parent_fits, parents_fit, parents_in};
 
 use crate::fault::EntityFault;
-use crate::uid_set::in_order;
+use entity_data::UidSet;
 use plain::Items;
 use schema::Schema;
 use values::EntityUid;
@@ -39,15 +39,15 @@ fn demand_parents(
     Ok(())
 }
 
-/// Returns these parents, ascending and without duplicates, if the entity may have each of them; else the first error.
+/// Returns the set of these parents if the entity may have each of them; else the first error.
 #[tactic(auto, unfolding(crate::specs::Entities::parents_in))]
 pub(crate) fn checked_parents(
     schema: &Schema,
     uid: &EntityUid,
     parents: Items<EntityUid>,
-) -> Result<Items<EntityUid>, EntityFault>
+) -> Result<UidSet, EntityFault>
     ensures { ReadsAs EntityFault.NoMemory (λ us. us) result (parents_in (schema_view schema.now) uid.now parents) }
 {
     demand_parents(schema, uid, parents.as_slice())?;
-    Ok(in_order(parents.into_vec())?)
+    Ok(UidSet::new(parents.into_vec())?)
 }

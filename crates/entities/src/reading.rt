@@ -6,7 +6,6 @@ ghost use Rattle.schema_types.specs.CedarViews.{cedar_view};
 ghost use Rattle.schema.specs.Views.{schema_view};
 ghost use Rattle.entities.specs.Typing.{record_in};
 ghost use Rattle.entities.specs.declared.fault.EntityFault.TheVariants as EntityFault;
-ghost use Rattle.entities.specs.Faults.{with_entity_fault};
 ghost use Rattle.entities.specs.EntityForms.{or_empty};
 ghost use Rattle.entities.specs.StatedEntities.{DescribesEntity, RefusesEntity};
 ghost use Rattle.entities.specs.Entities.{is_action_type, shape_of, attributes_in, entity_stated_in};
@@ -54,13 +53,13 @@ pub(crate) fn read_fields(
     ty: &CedarType,
 ) -> Result<Record, EntityFault>
     ensures { ReadsAs EntityFault.NoMemory (λ r. r) result
-        (with_entity_fault (record_in (cedar_view ty.now) (or_empty (option_map (λ v. view v.now) found.entry)))) }
+        (record_in (cedar_view ty.now) (or_empty (option_map (λ v. view v.now) found.entry))) }
 {
     match found {
-        Some(value) => Ok(read_record(alloc, value, ty)?),
+        Some(value) => read_record(alloc, value, ty),
         None => {
             let empty = Value::Object(Map::new(alloc));
-            Ok(read_record(alloc, &empty, ty)?)
+            read_record(alloc, &empty, ty)
         }
     }
 }

@@ -85,7 +85,7 @@ impl Sought for Asked {
 /// Returns the context that `value`, the JSON of the request `asked`, describes. The error is `NotApplicable` if the
 /// schema has no environment of the request, else the first error of the context.
 #[tactic(auto, unfolding(crate::specs::Requests::context_asked))]
-fn read_context_of(
+fn read_asked_context(
     alloc: Global,
     schema: &Schema,
     asked: &Asked,
@@ -107,7 +107,7 @@ fn request_in(alloc: Global, schema: &Schema, value: &Value) -> Result<Request, 
         (λ f. f ≢ EntityFault.NoMemory → RequestRefused (schema_view schema.now) (view value.now) f) }
 {
     let asked = read_asked(alloc, value)?;
-    let context = read_context_of(alloc, schema, &asked, value)?;
+    let context = read_asked_context(alloc, schema, &asked, value)?;
     let Asked {
         principal,
         action,

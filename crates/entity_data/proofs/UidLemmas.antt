@@ -142,6 +142,9 @@ set_from (u ∷ us) x i = elim (Contains-cases u (uid_set us) x (from_put u (uid
   | inr t ↦ Contains-there u us x (set_from us x t)
 ]
 
+pub same_members : (us : List EntityUid) (x : EntityUid) → Contains us x ↔ Contains (uid_set us) x
+same_members us x = (set_has us x, set_from us x)
+
 -- ---- the uids of entities and of actions are one list
 
 pub one_list : (one : AscendingListsAreOne) (actions : Actions) (declared lent us all : List EntityUid) → AreActions actions declared → AreActions actions lent

@@ -1,13 +1,12 @@
 //! An entity (Cedar reference guide 4.0, "Entities and context").
 
-use plain::Items;
+use crate::uid_set::UidSet;
 use values::{EntityUid, Record};
 
-/// An entity with its attributes and its parents. If it was parsed under a schema, its parents ascend without
-/// duplicates.
+/// An entity with its attributes and its parents.
 #[derive(Drop)]
 pub struct Entity {
     pub uid: EntityUid,
     pub attrs: Record,
-    pub parents: Items<EntityUid>,
+    pub parents: UidSet,
 }

@@ -9,6 +9,7 @@ mod entity;
 mod source;
 mod store;
 mod stored_edges;
+mod uid_set;
 mod uids;
 mod world;
 
@@ -17,6 +18,7 @@ pub use data::EntityData;
 pub use entity::Entity;
 pub use source::EntitySource;
 pub use store::EntityStore;
+pub use uid_set::UidSet;
 pub use world::Entities;
 
 // of lower layers

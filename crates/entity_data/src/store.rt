@@ -79,7 +79,7 @@ impl EntitySource for EntityStore {
 
     fn parents_at(&self, uid: &EntityUid) -> &[EntityUid] {
         match self.entries.get(uid) {
-            Some(kept) => kept.parents.as_slice(),
+            Some(kept) => kept.parents.members(),
             None => &[],
         }
     }

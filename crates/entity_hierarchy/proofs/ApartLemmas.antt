@@ -15,7 +15,6 @@ use Rattle.entities.specs.declared.fault.EntityFault.{EntityFault}
 use Rattle.entities.specs.declared.fault.EntityFault.TheVariants.{UnknownType, ActionEntity, TagsLeftOut}
 use Rattle.entities.specs.entity_data.declared.entity.Entity.{Entity}
 use Rattle.entities.specs.declared.stated.StatedEntity.{StatedEntity}
-use Rattle.entities.specs.Faults.{with_entity_fault}
 use Rattle.entities.specs.EntityForms.{stated_in, is_absent_or_empty, or_empty}
 use Rattle.entities.specs.Entities.{is_action_type, shape_of, attributes_in, parents_in, entity_stated_in}
 use Rattle.entities.specs.Laws.{ActionTypeTestIsExact}
@@ -41,7 +40,7 @@ shape_typed s name t h =
 attributes_typed : (s : StatedSchema) (name : List ℕ) (d : Data) (fs : List Field) → attributes_in s name d ≡ Ok fs → is_action_type name ≡ false
 unfolding attributes_in
 attributes_typed s name d fs h =
-    let a = bound (shape_of s name) (λ (t : Cedar). demand TagsLeftOut (is_absent_or_empty (get (codes "tags") d)) >>= λ (x : ⊤). with_entity_fault (record_in t (or_empty (get (codes "attrs") d)))) fs h in
+    let a = bound (shape_of s name) (λ (t : Cedar). demand TagsLeftOut (is_absent_or_empty (get (codes "tags") d)) >>= λ (x : ⊤). record_in t (or_empty (get (codes "attrs") d))) fs h in
     shape_typed s name a.0 a.1
 
 entity_typed : (s : StatedSchema) (d : Data) (e : Entity) → entity_stated_in s d ≡ Ok e → is_action_type e.uid.type_name ≡ false

@@ -10,8 +10,8 @@ use Rattle.values.specs.Fields.{Field}
 use Rattle.values.specs.Sets.{set_list}
 use Rattle.schema_types.specs.Cedar as type
 use Rattle.schema_types.specs.Cedar.{Cedar, CedarFields}
-use Rattle.entities.specs.declared.value_fault.ValueFault.{ValueFault}
-use Rattle.entities.specs.declared.value_fault.ValueFault.TheVariants.{WrongType, Undeclared, Missing}
+use Rattle.entities.specs.declared.fault.EntityFault.{EntityFault}
+use Rattle.entities.specs.declared.fault.EntityFault.TheVariants.{WrongType, Undeclared, Missing}
 use Rattle.entities.specs.Parts.{declared_at}
 use Rattle.entities.specs.Typing.{all_there, inside, with_or, typed_value, typed_items, typed_members, record_in}
 use Rattle.explanations.specs.Steps.{Step, Key, Index}
@@ -82,18 +82,18 @@ absent_only fs d k (says.later_absent other t r gs e l there rest) = rw there (a
 
 -- ---- values
 
-whole_found : (t : Cedar) (d : Data) (r : Result PlainValue ValueFault) → (is_set t d || is_record t d) ≡ false → typed_value t d ≡ r → Found (FaultAt t d) r (whole_path r)
+whole_found : (t : Cedar) (d : Data) (r : Result PlainValue EntityFault) → (is_set t d || is_record t d) ≡ false → typed_value t d ≡ r → Found (FaultAt t d) r (whole_path r)
 whole_found t d (Ok v) apart e = tt
 whole_found t d (Err f) apart e = says.whole t d f apart e
 
-set_found : (t : Cedar) (ds : Items) (r : Result (List PlainValue) ValueFault) (o : Option (List Step)) (make : List PlainValue → PlainValue) → Found (ItemFaultAt t 0 ds) r o
+set_found : (t : Cedar) (ds : Items) (r : Result (List PlainValue) EntityFault) (o : Option (List Step)) (make : List PlainValue → PlainValue) → Found (ItemFaultAt t 0 ds) r o
     → Found (FaultAt (type.set t) (json.array ds)) (r >>= λ vs. Ok (make vs)) o
 set_found t ds (Ok vs) None make h = h
 set_found t ds (Ok vs) (Some p) make h = h
 set_found t ds (Err f) None make h = h
 set_found t ds (Err f) (Some p) make h = says.in_set t ds p h
 
-record_found : (fs : CedarFields) (ms : Members) (r : Result (List Field) ValueFault) (o : Option (List Step)) (there : Bool) (p : Option (List Step)) (make : List Field → PlainValue)
+record_found : (fs : CedarFields) (ms : Members) (r : Result (List Field) EntityFault) (o : Option (List Step)) (there : Bool) (p : Option (List Step)) (make : List Field → PlainValue)
     → typed_members fs ms ≡ r → Found (MemberFaultAt fs ms) r o → Lacks fs (json.object ms) there p
     → Found (FaultAt (type.record_of fs) (json.object ms)) (inside r >>= λ vs. demand WrongType there >>= λ u. Ok (make vs)) (or_else o p)
 record_found fs ms (Ok vs) None true None make e h l = l
@@ -105,7 +105,7 @@ record_found fs ms (Ok vs) (Some q) there p make e h l = absurd h
 record_found fs ms (Err f) None there p make e h l = absurd h
 record_found fs ms (Err f) (Some q) there p make e h l = says.in_record fs ms q h
 
-item_step : (t : Cedar) (i : ℕ) (d : Data) (ds : Items) (r : Result PlainValue ValueFault) (o : Option (List Step)) (rest : Result (List PlainValue) ValueFault) (more : Option (List Step))
+item_step : (t : Cedar) (i : ℕ) (d : Data) (ds : Items) (r : Result PlainValue EntityFault) (o : Option (List Step)) (rest : Result (List PlainValue) EntityFault) (more : Option (List Step))
     → typed_value t d ≡ r → Found (FaultAt t d) r o → Found (ItemFaultAt t (i + 1) ds) rest more
     → Found (ItemFaultAt t i (item d ds)) (r >>= λ v. rest >>= λ vs. Ok (v ∷ vs)) (or_else (under (Index i) o) more)
 item_step t i d ds (Ok v) None (Ok vs) None e h k = k
@@ -116,7 +116,7 @@ item_step t i d ds (Ok v) (Some p) rest more e h k = absurd h
 item_step t i d ds (Err f) None rest more e h k = absurd h
 item_step t i d ds (Err f) (Some p) rest more e h k = says.this_item t i d ds p h
 
-known_step : (fs : CedarFields) (k : List ℕ) (d : Data) (ms : Members) (t : Cedar) (r : Result PlainValue ValueFault) (o : Option (List Step)) (rest : Result (List Field) ValueFault)
+known_step : (fs : CedarFields) (k : List ℕ) (d : Data) (ms : Members) (t : Cedar) (r : Result PlainValue EntityFault) (o : Option (List Step)) (rest : Result (List Field) EntityFault)
     (more : Option (List Step)) → declared_at k fs ≡ Some t → typed_value t d ≡ r → Found (FaultAt t d) r o → Found (MemberFaultAt fs ms) rest more
     → Found (MemberFaultAt fs (member k d ms)) (r >>= λ v. rest >>= λ vs. Ok ((k, v) ∷ vs)) (or_else (under (Key k) o) more)
 known_step fs k d ms t (Ok v) None (Ok vs) None here e h l = l
@@ -127,7 +127,7 @@ known_step fs k d ms t (Ok v) (Some p) rest more here e h l = absurd h
 known_step fs k d ms t (Err f) None rest more here e h l = absurd h
 known_step fs k d ms t (Err f) (Some p) rest more here e h l = says.this_member fs k d ms t p here h
 
-member_step : (fs : CedarFields) (k : List ℕ) (d : Data) (ms : Members) (o : Option Cedar) (rest : Result (List Field) ValueFault) (more : Option (List Step))
+member_step : (fs : CedarFields) (k : List ℕ) (d : Data) (ms : Members) (o : Option Cedar) (rest : Result (List Field) EntityFault) (more : Option (List Step))
     → declared_at k fs ≡ o → ((t : Cedar) → Found (FaultAt t d) (typed_value t d) (value_path t d)) → Found (MemberFaultAt fs ms) rest more
     → Found (MemberFaultAt fs (member k d ms)) (or_fault Undeclared o >>= λ t. typed_value t d >>= λ v. rest >>= λ vs. Ok ((k, v) ∷ vs))
     (or_else (under (Key k) (with_or o (λ t. value_path t d) (Some []))) more)
@@ -171,7 +171,7 @@ mutual
 
 -- ---- only this path
 
-whole_only : (t : Cedar) (d : Data) (f : ValueFault) → (is_set t d || is_record t d) ≡ false → typed_value t d ≡ Err f → value_path t d ≡ Some []
+whole_only : (t : Cedar) (d : Data) (f : EntityFault) → (is_set t d || is_record t d) ≡ false → typed_value t d ≡ Err f → value_path t d ≡ Some []
 unfolding value_path
 whole_only t json.null f apart e = ap whole_path e
 whole_only t (json.boolean b) f apart e = ap whole_path e
@@ -262,7 +262,7 @@ values_have_paths t d = has_path (FaultAt t d) (typed_value t d) (value_path t d
 
 -- ---- records
 
-fields_found : (fs : CedarFields) (ms : Members) (r : Result (List Field) ValueFault) (o : Option (List Step)) (there : Bool) (p : Option (List Step))
+fields_found : (fs : CedarFields) (ms : Members) (r : Result (List Field) EntityFault) (o : Option (List Step)) (there : Bool) (p : Option (List Step))
     → typed_members fs ms ≡ r → Found (MemberFaultAt fs ms) r o → Lacks fs (json.object ms) there p
     → Found (RecordFaultAt (type.record_of fs) (json.object ms)) (r >>= λ vs. demand Missing there >>= λ u. Ok vs) (or_else o p)
 fields_found fs ms (Ok vs) None true None e h l = l

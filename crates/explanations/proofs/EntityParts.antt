@@ -7,18 +7,18 @@ use Rattle.json_words.specs.ReadsAs.{◌>>=◌, or_fault, demand}
 use Rattle.values.specs.declared.entity_uid.EntityUid.{EntityUid}
 use Rattle.values.specs.Fields.{Field}
 use Rattle.schema_types.specs.Cedar.{Cedar}
-use Rattle.entities.specs.declared.value_fault.ValueFault.{ValueFault}
-use Rattle.entities.specs.declared.value_fault.ValueFault.TheVariants as value
+use Rattle.entities.specs.declared.fault.EntityFault.{EntityFault}
+use Rattle.entities.proofs.Only.{Within}
+use Rattle.entities.proofs.Refusals as records
+use Rattle.entities.proofs.Refusals.{IsRecordFault, record_within}
 use Rattle.entities.specs.entity_uids.Uids.{uid_in}
 use Rattle.entities.specs.Typing.{with_or, record_in}
 use Rattle.entities.specs.entity_data.UidSets.{uid_set}
 use Rattle.entities.specs.ancestor_search.Decided.{is_same}
 use Rattle.entities.specs.entity_data.declared.entity.Entity.{Entity}
 use Rattle.schema_decisions.specs.schema.Schemas.{StatedSchema}
-use Rattle.entities.specs.declared.fault.EntityFault.{EntityFault}
 use Rattle.entities.specs.declared.fault.EntityFault.TheVariants.{NoMemory, BadShape, UnknownType, ActionEntity, Undeclared, Missing, WrongType, BadParent, SelfParent, TagsLeftOut, NotApplicable}
 use Rattle.entities.specs.declared.stated.StatedEntity.{StatedEntity}
-use Rattle.entities.specs.Faults.{with_entity_fault}
 use Rattle.entities.specs.EntityForms.{is_absent_or_empty, or_empty, stated_in}
 use Rattle.entities.specs.Entities.{is_action_type, shape_of, attributes_in, parent_fits, parents_fit, parents_in, entity_stated_in}
 use Rattle.explanations.specs.Steps.{Step, Key}
@@ -154,36 +154,41 @@ attributes_path_is s d e shape h declared =
     ap (λ (o : Option EntityUid). under (Key (codes "attrs")) (with_or (option_and_then (λ (uid : EntityUid). s.shape uid.type_name) o) (λ t. record_path t (or_empty (get (codes "attrs") d))) None)) h.uid
     ∙ ap (λ (o : Option Cedar). under (Key (codes "attrs")) (with_or o (λ t. record_path t (or_empty (get (codes "attrs") d))) None)) declared
 
-fields_placed : {A : Type 0} (s : StatedSchema) (d : Data) (e : StatedEntity) (shape : Cedar) (r : Result (List Field) ValueFault) (o : Option (List Step)) (next : List Field → Result A EntityFault)
-    → stated_in d ≡ Ok e → s.shape e.uid.type_name ≡ Some shape → attributes_path s d ≡ under (Key (codes "attrs")) o
+record_placed : (A : Type 0) (s : StatedSchema) (d : Data) (e : StatedEntity) (shape : Cedar) (p : List Step) (f : EntityFault) → IsRecordFault f → stated_in d ≡ Ok e
+    → s.shape e.uid.type_name ≡ Some shape → attributes_path s d ≡ under (Key (codes "attrs")) (Some p) → RecordFaultAt shape (or_empty (get (codes "attrs") d)) p
+    → Placed {A = A} s d (Err f)
+record_placed A s d e shape p f records.is_undeclared is declared at h = (Key (codes "attrs") ∷ p, at, says.in_attributes e shape p is declared h)
+record_placed A s d e shape p f records.is_missing is declared at h = (Key (codes "attrs") ∷ p, at, says.in_attributes e shape p is declared h)
+record_placed A s d e shape p f records.is_wrong_type is declared at h = (Key (codes "attrs") ∷ p, at, says.in_attributes e shape p is declared h)
+
+fields_placed : {A : Type 0} (s : StatedSchema) (d : Data) (e : StatedEntity) (shape : Cedar) (r : Result (List Field) EntityFault) (o : Option (List Step)) (next : List Field → Result A EntityFault)
+    → Within IsRecordFault r → stated_in d ≡ Ok e → s.shape e.uid.type_name ≡ Some shape → attributes_path s d ≡ under (Key (codes "attrs")) o
     → Found (RecordFaultAt shape (or_empty (get (codes "attrs") d))) r o → ((attrs : List Field) → Placed s d (next attrs))
-    → Placed s d (with_entity_fault r >>= next)
-fields_placed s d e shape (Ok attrs) o next is declared at h more = more attrs
-fields_placed s d e shape (Err f) None next is declared at h more = absurd h
-fields_placed s d e shape (Err value.NoMemory) (Some p) next is declared at h more = (Key (codes "attrs") ∷ p, at, says.in_attributes e shape p is declared h)
-fields_placed s d e shape (Err value.WrongType) (Some p) next is declared at h more = (Key (codes "attrs") ∷ p, at, says.in_attributes e shape p is declared h)
-fields_placed s d e shape (Err value.Undeclared) (Some p) next is declared at h more = (Key (codes "attrs") ∷ p, at, says.in_attributes e shape p is declared h)
-fields_placed s d e shape (Err value.Missing) (Some p) next is declared at h more = (Key (codes "attrs") ∷ p, at, says.in_attributes e shape p is declared h)
+    → Placed s d (r >>= next)
+fields_placed s d e shape (Ok attrs) o next within is declared at h more = more attrs
+fields_placed s d e shape (Err f) None next within is declared at h more = absurd h
+fields_placed {A} s d e shape (Err f) (Some p) next within is declared at h more = record_placed A s d e shape p f (within f refl) is declared at h
 
 tags_placed : {A : Type 0} (s : StatedSchema) (d : Data) (e : StatedEntity) (shape : Cedar) (untagged : Bool) (next : List Field → Result A EntityFault)
     → stated_in d ≡ Ok e → s.shape e.uid.type_name ≡ Some shape → ((attrs : List Field) → Placed s d (next attrs))
-    → Placed s d (demand TagsLeftOut untagged >>= λ u. with_entity_fault (record_in shape (or_empty (get (codes "attrs") d))) >>= next)
+    → Placed s d (demand TagsLeftOut untagged >>= λ u. record_in shape (or_empty (get (codes "attrs") d)) >>= next)
 tags_placed s d e shape true next is declared more =
-    fields_placed s d e shape (record_in shape (or_empty (get (codes "attrs") d))) (record_path shape (or_empty (get (codes "attrs") d))) next is declared
+    fields_placed s d e shape (record_in shape (or_empty (get (codes "attrs") d))) (record_path shape (or_empty (get (codes "attrs") d))) next
+    (record_within shape (or_empty (get (codes "attrs") d))) is declared
     (attributes_path_is s d e shape (stated_parts d e is) declared) (record_is_found shape (or_empty (get (codes "attrs") d))) more
 tags_placed s d e shape false next is declared more = (to_key (codes "tags"), refl, refl)
 
 -- brackets
 told_tags : {A : Type 0} (s : StatedSchema) (d : Data) (shape : Cedar) (untagged : Bool) (next : List Field → Result A EntityFault)
-    → Placed s d (demand TagsLeftOut untagged >>= λ u. with_entity_fault (record_in shape (or_empty (get (codes "attrs") d))) >>= next)
-    → Placed s d ((demand TagsLeftOut untagged >>= λ u. with_entity_fault (record_in shape (or_empty (get (codes "attrs") d)))) >>= next)
+    → Placed s d (demand TagsLeftOut untagged >>= λ u. record_in shape (or_empty (get (codes "attrs") d)) >>= next)
+    → Placed s d ((demand TagsLeftOut untagged >>= λ u. record_in shape (or_empty (get (codes "attrs") d))) >>= next)
 told_tags s d shape true next h = h
 told_tags s d shape false next h = h
 
 shape_placed : {A : Type 0} (s : StatedSchema) (d : Data) (e : StatedEntity) (action untagged : Bool) (o : Option Cedar) (next : List Field → Result A EntityFault)
     → stated_in d ≡ Ok e → s.shape e.uid.type_name ≡ o → ((attrs : List Field) → Placed s d (next attrs))
     → Placed s d (((demand ActionEntity (not action) >>= λ other. or_fault UnknownType o) >>= λ shape. demand TagsLeftOut untagged >>= λ u.
-    with_entity_fault (record_in shape (or_empty (get (codes "attrs") d)))) >>= next)
+    record_in shape (or_empty (get (codes "attrs") d))) >>= next)
 shape_placed s d e true untagged o next is declared more = (to_key (codes "uid"), refl, refl)
 shape_placed s d e false untagged None next is declared more = (to_key (codes "uid"), refl, refl)
 shape_placed s d e false untagged (Some shape) next is declared more = told_tags s d shape untagged next (tags_placed s d e shape untagged next is declared more)

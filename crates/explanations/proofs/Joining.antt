@@ -12,13 +12,14 @@ use Rattle.policy_grammar.specs.declared.fault.ReadFault.{ReadFault}
 use Rattle.policy_grammar.specs.Faults as reading
 use Rattle.policy_grammar.specs.PolicyText.{IsPolicyFile, IsFileRefused}
 use Rattle.schema_decisions.specs.schema.Schemas.{StatedSchema, IsSchemaOf}
+use Rattle.schema_decisions.specs.answer_lines.Refusals.{number_in}
 use Rattle.schema_decisions.specs.answer_lines.declared.refusal.Refusal.{Refusal}
 use Rattle.schema_decisions.specs.answer_lines.Refusals.{no_memory}
 use Rattle.schema_decisions.specs.decision_texts.Decisions.{ArePoliciesOf, ArePoliciesRefused}
 use Rattle.schema_decisions.specs.Checks.{IsSchemaRefused}
-use Rattle.schema_decisions.specs.validator.declared.fault.TypeFault.{TypeFault}
-use Rattle.schema_decisions.specs.validator.declared.fault.TypeFault.TheVariants as fault
-use Rattle.schema_decisions.specs.validator.Faults.{code_of}
+use Rattle.schema_decisions.specs.typing.declared.fault.TypeFault.{TypeFault}
+use Rattle.schema_decisions.specs.typing.declared.fault.TypeFault.TheVariants as fault
+use Rattle.schema_decisions.specs.typing.Codes.{code_of}
 use Rattle.schema_decisions.specs.validator.Passing.{Passes, IsCheckRefused}
 use Rattle.fault_places.specs.declared.explaining.PolicyFault.{PolicyFault}
 use Rattle.fault_places.specs.ReportWording.{IsPolicyFault}
@@ -88,7 +89,7 @@ module _ (o : Option StatedSchema) (file text : List ℕ) (tokens : List Token) 
       → AppendsSome (IsUnreadExplained o file text tokens pieces r) old new
   pieces_tell pieces r new told e a = (a.0, inl (subst (λ (b : Bool). ArePiecesExplained o file text tokens r pieces b a.0) e a.1), a.2)
 
-  pub file_tells : (pieces : List Piece) (r : Refusal) (mid new : List ℕ) (told : Bool) (at : ℕ) → told ≡ false → at ≡ unwrap_or r.place 0
+  pub file_tells : (pieces : List Piece) (r : Refusal) (mid new : List ℕ) (told : Bool) (at : ℕ) → told ≡ false → at ≡ unwrap_or (number_in r.place) 0
       → AppendsExplained (ArePiecesExplained o file text tokens r pieces) old mid told → AppendsSome (IsReadErrorText file text tokens r.code at) mid new
       → AppendsSome (IsUnreadExplained o file text tokens pieces r) old new
   file_tells pieces r mid new told at e f a b =
@@ -135,10 +136,10 @@ with_words name code index words IsDetail bytes t h = record {
 }
 
 -- the text on a message, which is alone
-pub message_alone : (file words old new : List ℕ) (r : Refusal) → old ≡ [] → words ≡ entry_words r.place r.within
+pub message_alone : (file words old new : List ℕ) (r : Refusal) → old ≡ [] → words ≡ entry_words (number_in r.place) r.within
     → AppendsSome (IsWholeAt file r.code None (λ w. w ≡ words)) old new → IsMessageExplained file r new
 message_alone file words old new r empty same a =
-    let told : IsMessageExplained file r a.0 = with_words file r.code None words (λ w. w ≡ entry_words r.place r.within) a.0 same a.1 in
+    let told : IsMessageExplained file r a.0 = with_words file r.code None words (λ w. w ≡ entry_words (number_in r.place) r.within) a.0 same a.1 in
     subst (IsMessageExplained file r) (sym (a.2 ∙ ap (λ (l : List ℕ). l ++ a.0) empty)) told
 
 pub whole_told : (name old new : List ℕ) (code : ℕ) (index : Option ℕ) (words : List ℕ) (IsDetail : List ℕ → Type 0) → IsDetail words
@@ -151,11 +152,11 @@ pub accepted : (name old : List ℕ) (Read : Type 0) (Refused : Refusal → Type
 accepted name old Read Refused IsDetail read = ([], inl (read, refl), nothing_more old)
 
 -- a text that is rejected, with these words on the error
-pub rejected : (name old new : List ℕ) (Read : Type 0) (Refused : Refusal → Type 0) (IsDetail : Option ℕ → List ℕ → Type 0) (r : Refusal) (words : List ℕ) → IsDetail r.place words
-    → OrNoMemory no_memory Refused r → (r ≡ no_memory → ⊥) × AppendsSome (IsWholeAt name r.code r.place (λ w. w ≡ words)) old new
+pub rejected : (name old new : List ℕ) (Read : Type 0) (Refused : Refusal → Type 0) (IsDetail : Option ℕ → List ℕ → Type 0) (r : Refusal) (words : List ℕ) → IsDetail (number_in r.place) words
+    → OrNoMemory no_memory Refused r → (r ≡ no_memory → ⊥) × AppendsSome (IsWholeAt name r.code (number_in r.place) (λ w. w ≡ words)) old new
     → AppendsSome (IsCheckOutcome name Read Refused IsDetail) old new
 rejected name old new Read Refused IsDetail r words t refused (h, a) =
-    let told = whole_told name old new r.code r.place words (IsDetail r.place) t a in (told.0, inr (r, refused h, told.1), told.2)
+    let told = whole_told name old new r.code (number_in r.place) words (IsDetail (number_in r.place)) t a in (told.0, inr (r, refused h, told.1), told.2)
 
 -- ---- all texts
 
@@ -182,7 +183,7 @@ module _ (given : Files) (old : List ℕ) where
   under_schema schema s new h a = (a.0, inl (s, h, a.1), a.2)
 
   pub schema_rejected : (schema : File) (r : Refusal) (new : List ℕ) → IsSchemaRefused schema.text r
-      → AppendsSome (IsWholeAt schema.name r.code r.place IsNothing) old new → AppendsSome (IsExplainedUnder schema given) old new
+      → AppendsSome (IsWholeAt schema.name r.code (number_in r.place) IsNothing) old new → AppendsSome (IsExplainedUnder schema given) old new
   schema_rejected schema r new h a = (a.0, inr (r, h, a.1), a.2)
 
 pub from_nothing : (given : Files) (old new : List ℕ) → old ≡ [] → AppendsSome (IsExplained given) old new → IsExplained given new

@@ -3,6 +3,7 @@ use Rattle.std.proofs.Common.{◌≡◌, inl, inr, ℕ, Bool, List, [], ◌∷�
 use Rattle.grammar_desugaring.specs.grammar_syntax.declared.token.Token.{Token}
 use Rattle.policy_grammar.specs.declared.policy.Policy.{Policy}
 use Rattle.schema_decisions.specs.schema.Schemas.{StatedSchema}
+use Rattle.schema_decisions.specs.answer_lines.Refusals.{number_in}
 use Rattle.schema_decisions.specs.answer_lines.declared.refusal.Refusal.{Refusal}
 use Rattle.explanations.specs.Readable.{IsReadable}
 use Rattle.explanations.proofs.ReadableErrors.{both, nothing, source_is_readable, whole_is_readable}
@@ -82,7 +83,7 @@ file_reads o file held bytes (inr h) = at_whole file _ None (λ words. words ≡
 judged_reads : (name : List ℕ) (Read : Type 0) (Refused : Refusal → Type 0) (IsDetail : Option ℕ → List ℕ → Type 0) (bytes : List ℕ) → IsCheckOutcome name Read Refused IsDetail bytes
     → IsReadable bytes
 judged_reads name Read Refused IsDetail bytes (inl h) = empty bytes h.1
-judged_reads name Read Refused IsDetail bytes (inr h) = at_whole name _ _ (IsDetail h.0.place) bytes h.2
+judged_reads name Read Refused IsDetail bytes (inr h) = at_whole name _ _ (IsDetail (number_in h.0.place)) bytes h.2
 
 entities_read : (o : Option StatedSchema) (file : Option File) (bytes : List ℕ) → AreEntitiesExplained o file bytes → IsReadable bytes
 entities_read o None bytes h = empty bytes h
@@ -111,4 +112,4 @@ pub explained : (given : Files) (bytes : List ℕ) → IsExplained given bytes �
 explained given bytes h = as_given given.schema given bytes h
 
 pub message_reads : (file : List ℕ) (r : Refusal) (bytes : List ℕ) → IsMessageExplained file r bytes → IsReadable bytes
-message_reads file r bytes h = at_whole file r.code None (λ words. words ≡ entry_words r.place r.within) bytes h
+message_reads file r bytes h = at_whole file r.code None (λ words. words ≡ entry_words (number_in r.place) r.within) bytes h

@@ -7,16 +7,14 @@ use Rattle.json_words.specs.ReadsAs.{◌>>=◌, or_fault}
 use Rattle.values.specs.declared.entity_uid.EntityUid.{EntityUid}
 use Rattle.values.specs.Fields.{Field}
 use Rattle.schema_types.specs.Cedar.{Cedar}
-use Rattle.entities.specs.declared.value_fault.ValueFault.{ValueFault}
-use Rattle.entities.specs.declared.value_fault.ValueFault.TheVariants as value
+use Rattle.entities.specs.declared.fault.EntityFault.{EntityFault}
 use Rattle.entities.specs.entity_uids.Laws.{OneName}
 use Rattle.entities.specs.entity_uids.Uids.{IsRead}
 use Rattle.entities.specs.Typing.{with_or, record_in}
+use Rattle.entities.proofs.Refusals.{record_within}
 use Rattle.schema_decisions.specs.schema.Schemas.{StatedSchema}
-use Rattle.entities.specs.declared.fault.EntityFault.{EntityFault}
 use Rattle.entities.specs.declared.fault.EntityFault.TheVariants.{NoMemory, BadShape, UnknownType, ActionEntity, Undeclared, Missing, WrongType, BadParent, SelfParent, TagsLeftOut, NotApplicable}
 use Rattle.entities.specs.declared.requests.Asked.{Asked}
-use Rattle.entities.specs.Faults.{with_entity_fault}
 use Rattle.entities.specs.EntityForms.{is_absent_or_object, or_empty}
 use Rattle.entities.specs.Requests.{Asks, RequestRefused, context_asked}
 use Rattle.entities.specs.Requests as request
@@ -104,16 +102,12 @@ form_searched d names p a r h hp ha hr =
     form_searched_by d (is_some (as_object d)) (is_absent_or_object (get (codes "context") d)) p a r refl refl (named_by (get (codes "principal") d) names.principal p h.0 hp)
     (named_by (get (codes "action") d) names.action a h.1 ha) (named_by (get (codes "resource") d) names.resource r h.2 hr)
 
-told_shape : (r : Result (List Field) ValueFault) → with_entity_fault r ≡ Err BadShape → ⊥
-told_shape (Ok x) e = absurd cc
-told_shape (Err value.NoMemory) e = absurd cc
-told_shape (Err value.WrongType) e = absurd cc
-told_shape (Err value.Undeclared) e = absurd cc
-told_shape (Err value.Missing) e = absurd cc
+told_shape : (t : Cedar) (d : Data) → record_in t d ≡ Err BadShape → ⊥
+told_shape t d e = elim (record_within t d BadShape e) [ ]
 
-asked_shape_by : (o : Option Cedar) (d : Data) → (or_fault NotApplicable o >>= λ t. with_entity_fault (record_in t d)) ≡ Err BadShape → ⊥
+asked_shape_by : (o : Option Cedar) (d : Data) → (or_fault NotApplicable o >>= λ t. record_in t d) ≡ Err BadShape → ⊥
 asked_shape_by None d e = absurd cc
-asked_shape_by (Some t) d e = told_shape (record_in t d) e
+asked_shape_by (Some t) d e = told_shape t d e
 
 asked_shape : (s : StatedSchema) (asked : Asked) (d : Data) → context_asked s asked d ≡ Err BadShape → ⊥
 unfolding context_asked
@@ -136,14 +130,14 @@ form_part s d None h refused = absurd (has_form s d BadShape refused refl h.0 h.
 abbrev pub InContext : StatedSchema → Data → Option (List Step) → Type 0
 InContext s d o = (path : List Step) × (o ≡ Some path) × IsInContext s d path
 
-fields_fail : (s : StatedSchema) (d : Data) (asked : Asked) (t : Cedar) (r : Result (List Field) ValueFault) (o : Option (List Step)) (f : EntityFault) → Asks d asked → context_type s asked ≡ Some t
-    → Found (RecordFaultAt t (or_empty (get (codes "context") d))) r o → with_entity_fault r ≡ Err f → InContext s d (under (Key (codes "context")) o)
+fields_fail : (s : StatedSchema) (d : Data) (asked : Asked) (t : Cedar) (r : Result (List Field) EntityFault) (o : Option (List Step)) (f : EntityFault) → Asks d asked → context_type s asked ≡ Some t
+    → Found (RecordFaultAt t (or_empty (get (codes "context") d))) r o → r ≡ Err f → InContext s d (under (Key (codes "context")) o)
 fields_fail s d asked t (Ok x) o f asks is h e = absurd cc
 fields_fail s d asked t (Err g) None f asks is h e = absurd h
 fields_fail s d asked t (Err g) (Some p) f asks is h e = (Key (codes "context") ∷ p, refl, says.in_context asked t p asks is h)
 
 context_fails_by : (s : StatedSchema) (d : Data) (asked : Asked) (o : Option Cedar) (f : EntityFault) → Asks d asked → context_type s asked ≡ o → (f ≡ NotApplicable → ⊥)
-    → (or_fault NotApplicable o >>= λ t. with_entity_fault (record_in t (or_empty (get (codes "context") d)))) ≡ Err f
+    → (or_fault NotApplicable o >>= λ t. record_in t (or_empty (get (codes "context") d))) ≡ Err f
     → InContext s d (under (Key (codes "context")) (with_or o (λ t. record_path t (or_empty (get (codes "context") d))) None))
 context_fails_by s d asked None f asks is other e = absurd (other cc)
 context_fails_by s d asked (Some t) f asks is other e =

@@ -4,6 +4,7 @@
 use Rattle.std.specs.Prelude.{◌≡◌, ◌⊎◌, ℕ, List, [], ◌++◌, Option, None, Some, Ok, Err, codes}
 use Rattle.schema_decisions.specs.schema.Schemas.{StatedSchema}
 use Rattle.entities.specs.entity_data.declared.entity.Entity.{Entity}
+use Rattle.schema_decisions.specs.answer_lines.Refusals.{number_in}
 use Rattle.schema_decisions.specs.answer_lines.declared.refusal.Refusal.{Refusal}
 use Rattle.schema_decisions.specs.decision_texts.BareReading.{bare_reading}
 use Rattle.schema_decisions.specs.decision_texts.Decisions as bare
@@ -67,7 +68,8 @@ IsRequestPartNamed (Some s) text words = NamesPartOfRequestText s text words
 -- holds.
 abbrev pub IsCheckOutcome : List ℕ → Type 0 → (Refusal → Type 0) → (Option ℕ → List ℕ → Type 0) → List ℕ → Type 0
 IsCheckOutcome name Read Refused IsDetail bytes =
-    (Read × (bytes ≡ [])) ⊎ ((r : Refusal) × Refused r × IsWholeAt name r.code r.place (IsDetail r.place) bytes)
+    (Read × (bytes ≡ [])) ⊎ ((r : Refusal) × Refused r
+    × IsWholeAt name r.code (number_in r.place) (IsDetail (number_in r.place)) bytes)
 
 -- `AreEntitiesExplained s file bytes` holds if `bytes` explain why the entities of `file` are rejected; `bytes` are
 -- empty if the entities are accepted, or without a file.

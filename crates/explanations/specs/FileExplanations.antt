@@ -9,6 +9,7 @@ use Rattle.grammar_desugaring.specs.grammar_syntax.declared.token.Token.{Token}
 use Rattle.grammar_desugaring.specs.grammar_syntax.Lexing.{IsLexed, IsBadAt}
 use Rattle.policy_grammar.specs.declared.policy.Policy.{Policy}
 use Rattle.schema_decisions.specs.schema.Schemas.{StatedSchema, IsSchemaOf}
+use Rattle.schema_decisions.specs.answer_lines.Refusals.{number_in}
 use Rattle.schema_decisions.specs.answer_lines.declared.refusal.Refusal.{Refusal}
 use Rattle.schema_decisions.specs.decision_texts.Decisions.{ArePoliciesOf, ArePoliciesRefused}
 use Rattle.schema_decisions.specs.Checks.{IsSchemaRefused}
@@ -34,7 +35,7 @@ abbrev pub IsUnreadExplained
 IsUnreadExplained s file text tokens pieces r bytes =
     ArePiecesExplained s file text tokens r pieces true bytes
     ⊎ ((before : List ℕ) × (last : List ℕ) × ArePiecesExplained s file text tokens r pieces false before
-    × IsReadErrorText file text tokens r.code (unwrap_or r.place 0) last × (bytes ≡ before ++ last))
+    × IsReadErrorText file text tokens r.code (unwrap_or (number_in r.place) 0) last × (bytes ≡ before ++ last))
 
 -- `IsOutcomeExplained s file text tokens pieces bytes` holds if `bytes` explain what is rejected in the file `file`
 -- with this text, these tokens and these pieces.
@@ -91,7 +92,7 @@ pub record AreOthersExplained (s : Option StatedSchema) (given : Files) (bytes :
 abbrev pub IsExplainedUnder : File → Files → List ℕ → Type 0
 IsExplainedUnder schema given bytes =
     ((s : StatedSchema) × IsSchemaOf schema.text s × AreOthersExplained (Some s) given bytes)
-    ⊎ ((r : Refusal) × IsSchemaRefused schema.text r × IsWholeAt schema.name r.code r.place IsNothing bytes)
+    ⊎ ((r : Refusal) × IsSchemaRefused schema.text r × IsWholeAt schema.name r.code (number_in r.place) IsNothing bytes)
 
 -- `IsExplainedAs schema given bytes` is the same relation if there is a file `schema`; else `bytes` explain what is
 -- rejected without a schema.

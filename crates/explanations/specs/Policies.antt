@@ -10,9 +10,9 @@ use Rattle.std.specs.Prelude.{string_bytes, codes}
 use Rattle.grammar_core.specs.Size.{node_count}
 use Rattle.policy_grammar.specs.declared.policy.Policy.{Policy}
 use Rattle.schema_decisions.specs.schema.Schemas.{StatedSchema}
-use Rattle.schema_decisions.specs.validator.declared.fault.TypeFault.{TypeFault}
-use Rattle.schema_decisions.specs.validator.declared.fault.TypeFault.TheVariants as fault
-use Rattle.schema_decisions.specs.validator.Faults.{code_of}
+use Rattle.schema_decisions.specs.typing.declared.fault.TypeFault.{TypeFault}
+use Rattle.schema_decisions.specs.typing.declared.fault.TypeFault.TheVariants as fault
+use Rattle.schema_decisions.specs.typing.Codes.{code_of}
 use Rattle.schema_decisions.specs.validator.Passing.{Passes, IsCheckRefused}
 use Rattle.explanations.specs.declared.finding.SourceFinding.{SourceFinding}
 use Rattle.explanations.specs.ExplanationText.{IsSourceText}

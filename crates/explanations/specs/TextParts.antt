@@ -8,6 +8,7 @@ use Rattle.explanations.specs.declared.finding.SourceFinding.{SourceFinding}
 use Rattle.explanations.specs.declared.finding.WholeFinding.{WholeFinding}
 use Rattle.explanations.specs.ExplanationText.{IsSourceText, IsWholeText}
 use Rattle.explanations.specs.CodeText.{Texts, words_on}
+use Rattle.schema_decisions.specs.answer_lines.Refusals.{number_in}
 use Rattle.schema_decisions.specs.answer_lines.declared.refusal.Refusal.{Refusal}
 
 -- `IsPartOf text from to part` holds if `part` is the text between the bytes `from` and `to`, or empty if they are not
@@ -69,7 +70,7 @@ entry_words (Some index) code = codes "entry " ++ decimal index ++ codes " (from
 -- `refusal`.
 abbrev pub IsMessageExplained : List ℕ → Refusal → List ℕ → Type 0
 IsMessageExplained file refusal bytes =
-    IsWholeAt file refusal.code None (λ words. words ≡ entry_words refusal.place refusal.within) bytes
+    IsWholeAt file refusal.code None (λ words. words ≡ entry_words (number_in refusal.place) refusal.within) bytes
 
 -- `AppendsSome Is old new` holds if `new` is `old` followed by bytes for which `Is` holds.
 abbrev pub AppendsSome : (List ℕ → Type 0) → List ℕ → List ℕ → Type 0

@@ -13,6 +13,7 @@ use Rattle.policy_grammar.specs.declared.fault.ReadFault.{ReadFault}
 use Rattle.policy_grammar.specs.Faults.{code_of, place_of}
 use Rattle.policy_grammar.specs.PolicyText.{IsPolicyFile, IsFileRefused}
 use Rattle.schema_decisions.specs.schema.Schemas.{StatedSchema}
+use Rattle.schema_decisions.specs.answer_lines.Refusals.{number_in}
 use Rattle.schema_decisions.specs.answer_lines.declared.refusal.Refusal.{Refusal}
 use Rattle.explanations.specs.declared.pieces.Piece.{Piece}
 use Rattle.explanations.specs.TextParts.{IsPartOf, IsSourceAt}
@@ -29,7 +30,7 @@ is_placeless code = nat_le 18 code && nat_le code 19
 
 -- `is_that r code at` tests whether an error of this code at this byte is the error `r` of the file.
 abbrev pub is_that : Refusal → ℕ → ℕ → Bool
-is_that r code at = (code == r.code) && ((at == unwrap_or r.place 0) || is_placeless code)
+is_that r code at = (code == r.code) && ((at == unwrap_or (number_in r.place) 0) || is_placeless code)
 
 -- `end_of_token tokens at` is the byte after the first of `tokens` that starts at the byte `at`; `at` itself if none
 -- starts there.

@@ -13,7 +13,7 @@ use Rattle.values.specs.Values.{PlainValue}
 use Rattle.values.specs.Fields.{Field}
 use Rattle.schema_types.specs.Cedar as type
 use Rattle.schema_types.specs.Cedar.{Cedar, CedarFields}
-use Rattle.entities.specs.declared.value_fault.ValueFault.{ValueFault}
+use Rattle.entities.specs.declared.fault.EntityFault.{EntityFault}
 use Rattle.entities.specs.Parts.{element_of, fields_in, declared_at}
 use Rattle.entities.specs.Typing.{typed_value, typed_members}
 use Rattle.explanations.specs.Steps.{Step, Key, Index}
@@ -38,7 +38,7 @@ pub data FirstAbsent : CedarFields → Data → List ℕ → Type 0 where
 mutual
   -- `FaultAt t d path` holds if `d` describes no value of the type `t`, and `path` leads from `d` to the part at fault.
   pub data FaultAt : Cedar → Data → List Step → Type 0 where
-    whole : (t : Cedar) (d : Data) (f : ValueFault) → (is_set t d || is_record t d) ≡ false
+    whole : (t : Cedar) (d : Data) (f : EntityFault) → (is_set t d || is_record t d) ≡ false
         → typed_value t d ≡ Err f → FaultAt t d []
     in_set : (t : Cedar) (ds : Items) (path : List Step) → ItemFaultAt t 0 ds path
         → FaultAt (type.set t) (array ds) path

@@ -28,7 +28,7 @@ struct Cut {
 }
 
 // Returns the part of `line` that an excerpt shows for a place at this column, counted from 1.
-fn cut_at(line: &str, column: usize) -> Cut
+fn shown_part(line: &str, column: usize) -> Cut
     ensures len { result.len ≡ length (chars line.now) }
     ensures place { result.place ≡ place_in (length (chars line.now)) column }
     ensures before { result.before ≡ cut_before (length (chars line.now)) result.place }
@@ -100,7 +100,7 @@ pub(crate) fn push_excerpt(
         ++ excerpt file.now (line_of text.now place.line) place.line place.column span) }
 {
     let line = line_at(text, place.line);
-    let cut = cut_at(line, place.column);
+    let cut = shown_part(line, place.column);
     let digits = place.line.to_string(alloc)?.len();
     let carets: usize = span.min(cut.end.saturating_sub(cut.place)).max(1);
     push_rows(out, file, line, place, &cut, digits, carets)

@@ -18,7 +18,7 @@ use crate::unread::{Lexed, explain_pieces, push_read_fault};
 use entities::Schema;
 use grammar_desugaring::{LexFault, Token, tokens};
 use plain::NoMemory;
-use schema_decisions::{Refusal, drop_policies, drop_schema, policies_of_file, schema_in};
+use schema_decisions::{Refusal, drop_policies, drop_schema, parse_schema, policies_of_file};
 use std::alloc::Global;
 
 /// Returns the tokens of a text; an empty list if at some byte no token begins.
@@ -53,7 +53,7 @@ fn explain_unread(
     if some {
         return Ok(());
     }
-    let at = lexed.refusal.place.unwrap_or(0);
+    let at = lexed.refusal.place_number().unwrap_or(0);
     push_read_fault(alloc, out, lexed, lexed.refusal.code, at)
 }
 
@@ -158,7 +158,7 @@ fn explain_given(alloc: Global, out: &mut String, given: &Given<'_, '_>) -> Resu
     let Some(source) = given.schema else {
         return explain_others(alloc, out, None, given);
     };
-    match schema_in(alloc, source.text) {
+    match parse_schema(alloc, source.text) {
         Ok(schema) => {
             let explained = explain_others(alloc, out, Some(&schema), given);
             drop_schema(schema);

@@ -1,5 +1,6 @@
 //! Explains that a message is rejected.
 ghost use Rattle.std.specs.Prelude.{◌≡◌, ◌++◌, IfOk, OnOk, string_bytes};
+ghost use Rattle.schema_decisions.specs.answer_lines.Refusals.{number_in};
 ghost use Rattle.explanations.specs.CodeText.{words_on};
 ghost use Rattle.explanations.specs.TextParts.{name_in, inner_words, entry_words, IsMessageExplained};
 
@@ -43,9 +44,9 @@ fn push_inner(out: &mut String, within: Option<u8>) -> Result<(), NoMemory>
 /// words without an index.
 fn push_entry(out: &mut String, refusal: Refusal) -> Result<(), NoMemory>
     ensures { OnOk result (string_bytes out.new
-        ≡ string_bytes out.old ++ entry_words refusal.place refusal.within) }
+        ≡ string_bytes out.old ++ entry_words (number_in refusal.place) refusal.within) }
 {
-    match refusal.place {
+    match refusal.place_number() {
         Some(index) => {
             push_all(
                 out,

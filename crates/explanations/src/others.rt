@@ -45,7 +45,7 @@ pub(crate) fn explain_entities(
     match check_entities(alloc, &UnderSchema { schema }, source.text) {
         Ok(()) => Ok(()),
         Err(refusal) => {
-            let words = entity_part(alloc, schema, source.text, refusal.place)?;
+            let words = entity_part(alloc, schema, source.text, refusal.place_number())?;
             push_refusal(out, source.name, refusal, words.as_str())
         }
     }

@@ -99,7 +99,7 @@ fn find_in_request_form<'p>(alloc: Global, value: &Value) -> Result<Option<Trail
 }
 
 /// Returns whether an environment is that of this action and the types of these entities.
-fn is_of(
+fn is_environment_of(
     environment: &Environment,
     principal: &EntityUid,
     action: &EntityUid,
@@ -126,7 +126,7 @@ fn context_type<'s>(
 {
     let all = schema.environments();
     for environment in all {
-        if is_of(environment, principal, action, resource) {
+        if is_environment_of(environment, principal, action, resource) {
             return Some(&environment.context);
         }
     }

@@ -506,7 +506,7 @@ fn rows_of(code: u16) -> &'static [CodeWords<&'static str>]
 }
 
 /// Returns the first of `rows` that has this code, or `None`.
-fn found_in(
+fn row_with_code(
     rows: &'static [CodeWords<&'static str>],
     code: u16,
 ) -> Option<&'static CodeWords<&'static str>>
@@ -526,5 +526,5 @@ pub fn words_of(code: u16) -> Option<&'static CodeWords<&'static str>>
     ensures known { is_some result ≡ is_code code }
     ensures clean { IfSome result (λ words. is_clean (texts_of words.now) ≡ true) }
 {
-    found_in(rows_of(code), code)
+    row_with_code(rows_of(code), code)
 }

@@ -1,6 +1,7 @@
 //! Parts of a text, and the texts that explain errors.
 ghost use Rattle.std.specs.Prelude.{◌≡◌, OnOk, string_bytes};
 ghost use Rattle.schema_decisions.specs.answer_lines.Refusals.{no_memory};
+ghost use Rattle.schema_decisions.specs.answer_lines.Refusals.{number_in};
 ghost use Rattle.explanations.specs.TextParts.{IsPartOf, IsWholeAt, AppendsSome};
 
 use crate::finding::WholeFinding;
@@ -48,13 +49,13 @@ pub(crate) fn push_refusal(
     detail: &str,
 ) -> Result<(), NoMemory>
     ensures { OnOk result ((refusal ≡ no_memory → ⊥)
-        × AppendsSome (IsWholeAt file.now refusal.code refusal.place (λ words. words ≡ detail.now))
+        × AppendsSome (IsWholeAt file.now refusal.code (number_in refusal.place) (λ words. words ≡ detail.now))
         (string_bytes out.old) (string_bytes out.new)) }
 {
     unless_no_memory(refusal)?;
     let finding = WholeFinding {
         code: u16::from(refusal.code),
-        index: refusal.place,
+        index: refusal.place_number(),
         detail,
     };
     push_whole(out, file, &finding)

@@ -87,7 +87,7 @@ pub(crate) fn push_read_fault(
 fn is_that(refusal: Refusal, code: u8, at: usize) -> bool
     ensures { result ≡ is_that refusal code at }
 {
-    code == refusal.code && (at == refusal.place.unwrap_or(0) || matches!(code, 18..=19))
+    code == refusal.code && (at == refusal.place_number().unwrap_or(0) || matches!(code, 18..=19))
 }
 
 /// Appends why a piece of a file does not parse, or why its policy does not pass validation. Returns whether the piece

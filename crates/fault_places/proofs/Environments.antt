@@ -12,7 +12,8 @@ use Rattle.type_checker.specs.schema.Schemas.{StatedSchema}
 use Rattle.type_checker.specs.schema.Views.{environment_view}
 use Rattle.type_checker.specs.FromSchemas.{typing_environment_of}
 use Rattle.typing.specs.Types.{StaticType}
-use Rattle.typing.specs.Environment.{Environment, ExpressionFault}
+use Rattle.typing.specs.Environment.{Environment}
+use Rattle.typing.specs.declared.fault.TypeFault.{TypeFault}
 use Rattle.typing.specs.Faults.{Faults}
 use Rattle.typing.specs.Laws.{HaveOneJudgement}
 use Rattle.validator.specs.Passing
@@ -27,11 +28,11 @@ use Rattle.fault_places.specs.declared.blaming.TypeBlame.{TypeBlame}
 use Rattle.typing.proofs.OnePlace.{one_blame}
 
 module _ (one : HaveOneJudgement) (x : Expr) where
-  not_both : (env : Environment) {n : ExpressionFault} → HasBooleanType x env → Faults env [] x n → ⊥
+  not_both : (env : Environment) {n : TypeFault} → HasBooleanType x env → Faults env [] x n → ⊥
   not_both env {n} h g = typed_or_faulty one x env h.0 n h.2 g
 
   -- two derivations of the first fault
-  pub one_first : (envs : List Environment) (m n : ExpressionFault) (g : FirstFaulty x envs m) (h : FirstFaulty x envs n)
+  pub one_first : (envs : List Environment) (m n : TypeFault) (g : FirstFaulty x envs m) (h : FirstFaulty x envs n)
       → (environment_blamed g ≡ environment_blamed h) × (blamed_there g ≡ blamed_there h)
   one_first [] m n g h = elim g [ ]
   one_first (env ∷ envs) m n (Passing.faulty_here g) (Passing.faulty_here h) = (refl, one_blame one env g h)
@@ -40,15 +41,15 @@ module _ (one : HaveOneJudgement) (x : Expr) where
   one_first (env ∷ envs) m n (Passing.faulty_later t g) (Passing.faulty_later s h) =
       let k = one_first envs m n g h in (ap suc k.0, k.1)
 
-  faulty_at : (before rest : List Environment) (env : Environment) {n : ExpressionFault} → All (HasBooleanType x) before
+  faulty_at : (before rest : List Environment) (env : Environment) {n : TypeFault} → All (HasBooleanType x) before
       → Faults env [] x n → FirstFaulty x (before ++ env ∷ rest) n
   faulty_at [] rest env h g = Passing.faulty_here g
   faulty_at (e ∷ es) rest env h g =
       Passing.faulty_later (All-head (HasBooleanType x) e es h) (faulty_at es rest env (All-tail (HasBooleanType x) e es h) g)
 
   -- it has as many environments before it, and blames what is blamed there
-  said_at : (before rest : List Environment) (env : Environment) (d : Blame) {m n : ExpressionFault}
-      → All (HasBooleanType x) before → Faults env [] x m → ((k : ExpressionFault) (g : Faults env [] x k) → blamed g ≡ d)
+  said_at : (before rest : List Environment) (env : Environment) (d : Blame) {m n : TypeFault}
+      → All (HasBooleanType x) before → Faults env [] x m → ((k : TypeFault) (g : Faults env [] x k) → blamed g ≡ d)
       → (h : FirstFaulty x (before ++ env ∷ rest) n) → (environment_blamed h ≡ length before) × (blamed_there h ≡ d)
   said_at [] rest env d t f u (Passing.faulty_here g) = (refl, u _ g)
   said_at [] rest env d t f u (Passing.faulty_later s g) = absurd (not_both env s f)
@@ -59,13 +60,10 @@ module _ (one : HaveOneJudgement) (x : Expr) where
   first_blame : (before rest : List Environment) (env : Environment) (i : ℕ) (b : TypeBlame) → All (HasBooleanType x) before
       → length before ≡ i → IsBlamedAt env i x b → IsFirstBlame (before ++ env ∷ rest) x b
   first_blame before rest env i b t e h =
-      let f = h.1 in
       record {
-        fault = f.0;
-        first = faulty_at before rest env t f.2;
-        code = f.1;
-        environment = λ n g. (said_at before rest env (place_view b.place) t f.2 h.2 g).0 ∙ (e ∙ sym h.0);
-        place = λ n g. (said_at before rest env (place_view b.place) t f.2 h.2 g).1;
+        first = faulty_at before rest env t h.1;
+        environment = λ n g. (said_at before rest env (place_view b.place) t h.1 h.2 g).0 ∙ (e ∙ sym h.0);
+        place = λ n g. (said_at before rest env (place_view b.place) t h.1 h.2 g).1;
       }
 
 -- the environments of a schema, one after the other

@@ -1,33 +1,21 @@
 -- The judgement on one expression: its type or its error.
-use Rattle.std.specs.Prelude.{◌≡◌, ◌≢◌, [], ◌++◌, List, Option, refl}
+use Rattle.std.specs.Prelude.{◌≡◌, [], ◌++◌, List, Option}
 use Rattle.std.proofs.Common.{sym, ap, ◌∙◌, subst}
 use Rattle.std.proofs.lemmas.List.{map-append}
 use Rattle.grammar_core.specs.declared.expr.Expr.{Expr}
-use Rattle.validator.specs.declared.fault.TypeFault.{TypeFault}
+use Rattle.typing.specs.declared.fault.TypeFault.{TypeFault}
 use Rattle.typing.specs.Types as types
 use Rattle.typing.specs.Environment.{Environment}
 use Rattle.typing.specs.Typing.{Types}
 use Rattle.typing.specs.Faults.{Faults}
-use Rattle.validator.specs.Faults.{of_typing, of_types}
 use Rattle.validator.specs.Passing.{HasType}
-use Rattle.type_checker.specs.Views.{static_view, boolean_view, fault_view}
+use Rattle.type_checker.specs.Views.{static_view, boolean_view}
 use Rattle.type_checker.specs.declared.static_type.BooleanType.{BooleanType}
 use Rattle.type_checker.specs.declared.static_type.BooleanType.TheVariants as truth
 use Rattle.type_checker.specs.type_capabilities.CapabilityList.{capability_of, capabilities}
 use Rattle.type_checker.specs.type_capabilities.declared.capability.Capability.{Capability}
 use Rattle.type_checker.specs.declared.static_type.StaticType.{StaticType}
-use Rattle.type_checker.specs.declared.fault.ExpressionFault as at_hand
-use Rattle.type_checker.specs.declared.fault.ExpressionFault.TheVariants as fault
-use Rattle.fault_places.specs.inner.Judging.{IsFault}
 use Rattle.fault_places.specs.inner.Steps.{IsTyped, IsUntyped}
-
-pub told_as : (f : at_hand.ExpressionFault) → f ≢ fault.NoMemory → of_types f ≡ of_typing (fault_view f)
-told_as fault.NoMemory n = absurd (n refl)
-told_as fault.Unexpected n = refl
-told_as fault.NoCommonType n = refl
-told_as fault.AttributeMayBeMissing n = refl
-told_as fault.EmptySet n = refl
-told_as fault.BadExtensionLiteral n = refl
 
 -- without known capabilities
 
@@ -38,8 +26,9 @@ module _ (env : Environment) (x : Expr) (ps qs : List Capability) (ts us : List 
       (static_view t.kind, (capabilities t.gained, subst (λ rs. Types env (capabilities rs) x (static_view t.kind) (capabilities t.gained)) none t.typed))
 
   -- or an error, and nothing is known then
-  pub faulty_there : (f : TypeFault) (u : IsUntyped env ps x qs) → f ≡ of_typing u.error → IsFault env x f
-  faulty_there f u told = (u.error, told, subst (λ rs. Faults env (capabilities rs) x u.error) none u.has_error)
+  pub faulty_there : (f : TypeFault) (u : IsUntyped env ps x qs) → f ≡ u.error → Faults env [] x f
+  faulty_there f u told =
+      subst (λ g. Faults env [] x g) (sym told) (subst (λ rs. Faults env (capabilities rs) x u.error) none u.has_error)
 
   pub still_none : (u : IsUntyped env ps x qs) → qs ≡ []
   still_none u = u.unchanged ∙ none

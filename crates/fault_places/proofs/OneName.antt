@@ -4,7 +4,7 @@ use Rattle.std.proofs.Common.{sym, ap, ◌∙◌, subst}
 use Rattle.std.proofs.lemmas.List.Elements.{All-head, All-tail}
 use Rattle.grammar_core.specs.declared.expr.Expr.{Expr}
 use Rattle.type_checker.specs.schema.Schemas.{StatedSchema}
-use Rattle.validator.specs.declared.fault.TypeFault.{TypeFault}
+use Rattle.typing.specs.declared.fault.TypeFault.{TypeFault}
 use Rattle.validator.specs.Names.{Name, names_in}
 use Rattle.validator.specs.Unknown.{FirstUnknown}
 use Rattle.validator.proofs.KnownLemmas.{none_first}

@@ -16,7 +16,7 @@ use Rattle.grammar_syntax.specs.declared.tree.ExprTree.TheOpen.{ExprTree-F as tr
 use Rattle.fault_places.specs.TokenCounts.{tree_count, count_step, each_count}
 use Rattle.fault_places.specs.declared.forms.FormNode.{FormNode}
 use Rattle.fault_places.specs.declared.forms.FormNode.TheVariants as part
-use Rattle.fault_places.specs.Forms.{Form, operand_step, tokens_after_step, tokens_after_test, minus_operand, one_at, left_at, chain_at, piece_at, access_at, member_at, kept}
+use Rattle.fault_places.specs.Forms.{Form, operand_step, tokens_after_step, tokens_after_test, minus_operand, only_operand_at, left_at, chain_at, piece_at, access_at, member_at, kept}
 
 -- an operand of a form whose tree is this one
 pub seen : (x v : ExprTree) (y : tree ExprTree) (f : Form) (i : ℕ) → x ≡ v → out-ExprTree v ≡ y → operand_step y f i ≡ operand_step (out-ExprTree x) f i
@@ -31,7 +31,7 @@ seen-chain x a more f i (inr (inr is)) = seen x (t.Or a more) (tree.Or a more) f
 
 pub seen-postfix : (x a : ExprTree) (f : Form) (i : ℕ)
     → ((key : KeyTree) × x ≡ t.Has a key) ⊎ ((token : Token) × x ≡ t.Like a token) ⊎ ((path : PathTree) × x ≡ t.Is a path)
-    → one_at a f.tokens i ≡ operand_step (out-ExprTree x) f i
+    → only_operand_at a f.tokens i ≡ operand_step (out-ExprTree x) f i
 seen-postfix x a f i (inl (key, is)) = seen x (t.Has a key) (tree.Has a key) f i is (t.outs-Has a key)
 seen-postfix x a f i (inr (inl (token, is))) = seen x (t.Like a token) (tree.Like a token) f i is (t.outs-Like a token)
 seen-postfix x a f i (inr (inr (path, is))) = seen x (t.Is a path) (tree.Is a path) f i is (t.outs-Is a path)
@@ -48,11 +48,11 @@ seen_behind-chain x a more f (inr (inl is)) = seen_behind x (t.And a more) (tree
 seen_behind-chain x a more f (inr (inr is)) = seen_behind x (t.Or a more) (tree.Or a more) f is (t.outs-Or a more)
 
 -- a tree that is no number
-no_number : (y : tree ExprTree) (a : ExprTree) (ts : List Token) (i : ℕ) → ((token : Token) → y ≡ tree.Number token → ⊥) → one_at a ts i ≡ minus_operand y a ts i
+no_number : (y : tree ExprTree) (a : ExprTree) (ts : List Token) (i : ℕ) → ((token : Token) → y ≡ tree.Number token → ⊥) → only_operand_at a ts i ≡ minus_operand y a ts i
 no_number (tree.Number token) a ts i other = absurd (other token refl)
 no_number y a ts i other = refl
 
-pub minus_operand-other : (a : ExprTree) (ts : List Token) (i : ℕ) → ((token : Token) → a ≡ t.Number token → ⊥) → one_at a ts i ≡ minus_operand (out-ExprTree a) a ts i
+pub minus_operand-other : (a : ExprTree) (ts : List Token) (i : ℕ) → ((token : Token) → a ≡ t.Number token → ⊥) → only_operand_at a ts i ≡ minus_operand (out-ExprTree a) a ts i
 minus_operand-other a ts i other =
     no_number (out-ExprTree a) a ts i (λ token h. other token (sym (roll-out-ExprTree a) ∙ ap roll-ExprTree h ∙ t.rolls-Number token))
 

@@ -2,7 +2,8 @@
 use Rattle.std.specs.Prelude.{◌≡◌, ℕ, List, [], ◌∷◌, ◌++◌, map, Option, refl}
 use Rattle.std.proofs.Common.{sym, ap, ◌∙◌, subst, append_assoc}
 use Rattle.grammar_core.specs.declared.expr.Expr.{Expr}
-use Rattle.typing.specs.Environment.{Environment, ExpressionFault}
+use Rattle.typing.specs.Environment.{Environment}
+use Rattle.typing.specs.declared.fault.TypeFault.{TypeFault}
 use Rattle.typing.specs.Faults.{Faults}
 use Rattle.type_checker.specs.Views.{static_view}
 use Rattle.type_checker.specs.type_capabilities.declared.capability.Capability.{Capability}
@@ -29,7 +30,7 @@ module _ (env : Environment) (whole : Expr) (p : List ℕ) (ps : List Capability
 
   pub reaches_end : (o : Option ℕ) (ts : List StaticType) (q : List ℕ)
       → StopsAt env ps x o ts → q ≡ p ++ last_of o
-      → (n : ExpressionFault) (h : Faults env [] whole n) → blamed h ≡ record { path = q; form = x; types = map static_view ts }
+      → (n : TypeFault) (h : Faults env [] whole n) → blamed h ≡ record { path = q; form = x; types = map static_view ts }
   reaches_end o ts q s e n h =
       let k = r n h in
       let P : List ℕ → Blame = λ z. record { path = z; form = x; types = map static_view ts } in

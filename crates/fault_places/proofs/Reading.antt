@@ -14,8 +14,8 @@ use Rattle.type_checker.specs.schema.Views.{environment_view}
 use Rattle.type_checker.specs.FromSchemas.{typing_environment_of}
 use Rattle.type_checker.specs.Views.{static_view}
 use Rattle.fault_places.specs.declared.blaming.TypeBlame.{TypeBlame}
-use Rattle.validator.specs.declared.fault.TypeFault.{TypeFault}
-use Rattle.validator.specs.declared.fault.TypeFault.TheVariants as fault
+use Rattle.typing.specs.declared.fault.TypeFault.{TypeFault}
+use Rattle.typing.specs.declared.fault.TypeFault.TheVariants as fault
 use Rattle.typing.specs.Environment as typing
 use Rattle.typing.specs.Types as types
 use Rattle.typing.specs.Rows.{Row, field_type_of}

@@ -11,7 +11,8 @@ use Rattle.grammar_core.specs.declared.operator.Unary.{Unary}
 use Rattle.grammar_core.specs.Size.{height}
 use Rattle.typing.specs.Types as types
 use Rattle.typing.specs.Types.{false_type}
-use Rattle.typing.specs.Environment.{Environment, ExpressionFault}
+use Rattle.typing.specs.Environment.{Environment}
+use Rattle.typing.specs.declared.fault.TypeFault.{TypeFault}
 use Rattle.typing.specs.Gained.{CapabilityList}
 use Rattle.typing.specs.Typing
 use Rattle.typing.specs.Typing.{Types, TypesEach}
@@ -65,7 +66,7 @@ module _ (env : Environment) (ps : List Capability) where
   -- the way down under pairs that are these
   abbrev Below : Expr → ℕ → Expr → CapabilityList → Type 0
   Below x i y M = (height y < height x)
-      × ((n : ExpressionFault) (h : Faults env (capabilities ps) x n) → (g : Faults env M y n) × (blamed h ≡ under i (blamed g)))
+      × ((n : TypeFault) (h : Faults env (capabilities ps) x n) → (g : Faults env M y n) × (blamed h ≡ under i (blamed g)))
 
   -- under what the first operand gains, too
   faulty_behind : {ts us : List StaticType} {qs rs : List Capability} {a b : Expr} {o : Option BooleanType}
@@ -206,7 +207,7 @@ module _ (env : Environment) (ps : List Capability) where
 
   -- x is of the form y, whose demand is about the types of all operands
   abbrev DemandsAll : Expr → Expr-F Expr → Type 0
-  DemandsAll x y = (n : ExpressionFault) (d : Blame) → LayerFaults env (capabilities ps) x y n d
+  DemandsAll x y = (n : TypeFault) (d : Blame) → LayerFaults env (capabilities ps) x y n d
       → EachFaults env (capabilities ps) (operands_in y) (demand y x) n d
 
   -- the first operands, as many as there are types, have these
@@ -235,7 +236,7 @@ module _ (env : Environment) (ps : List Capability) where
       )
 
   among_ends : (x : Expr) (y : Expr-F Expr) → out-Expr x ≡ y → DemandsAll x y → (i : ℕ) (ts : List StaticType) {ks : List Capability}
-      → Among y i ks ts → slice_get (operands_in y) i ≡ None → (n : ExpressionFault) (h : Faults env (capabilities ps) x n)
+      → Among y i ks ts → slice_get (operands_in y) i ≡ None → (n : TypeFault) (h : Faults env (capabilities ps) x n)
       → blamed h ≡ demand y x (map static_view ts)
   among_ends x y o w i ts (k, (e, g)) s n h =
       let xs = operands_in y in
@@ -264,7 +265,7 @@ module _ (env : Environment) (ps : List Capability) where
   -- the form blames its only operand
   one_stops : (x : Expr) (y : Expr-F Expr) → out-Expr x ≡ y → DemandsAll x y → {a : Expr} {ks qs : List Capability} {ts us : List StaticType}
       {p : Option BooleanType} → operands_in y ≡ a ∷ [] → ks ≡ ps → ts ≡ [] → IsTyped env ks ts a qs us p
-      → (n : ExpressionFault) (h : Faults env (capabilities ps) x n) → blamed h ≡ demand y x (map static_view us)
+      → (n : TypeFault) (h : Faults env (capabilities ps) x n) → blamed h ≡ demand y x (map static_view us)
   one_stops x y o w {a} {ks} {qs} {ts} {us} {p} is k f t n h =
       let g = subst (λ vs. IsTyped env ps vs a qs us p) f (subst (λ gs. IsTyped env gs ts a qs us p) k t) in
       let e : TypesEach env (capabilities ps) (a ∷ []) (static_view g.kind ∷ []) = Typing.types_more g.typed Typing.types_none in

@@ -1,6 +1,6 @@
 -- What is told of a policy, by its names and its environments.
 use Rattle.std.specs.Prelude.{◌≡◌, All}
-use Rattle.std.proofs.Common.{sym, subst}
+use Rattle.std.proofs.Common.{subst}
 use Rattle.grammar_core.specs.declared.expr.Expr.{Expr}
 use Rattle.policy_grammar.specs.declared.policy.Policy.{Policy}
 use Rattle.policy_grammar.specs.PolicyExpression.{expression_of}
@@ -8,7 +8,7 @@ use Rattle.type_checker.specs.schema.Schemas.{StatedSchema}
 use Rattle.validator.specs.Names.{names_in}
 use Rattle.validator.specs.Unknown.{IsKnown}
 use Rattle.validator.specs.Passing
-use Rattle.validator.specs.Passing.{environments_of, HasBooleanType, Passes, IsCheckRefused}
+use Rattle.validator.specs.Passing.{environments_of, HasBooleanType, Passes}
 use Rattle.fault_places.specs.NamesAt.{IsNameBlame}
 use Rattle.fault_places.specs.FirstTypingError.{IsTypeBlame}
 use Rattle.fault_places.specs.PolicyReports.{IsBlame}
@@ -26,7 +26,7 @@ module _ (s : StatedSchema) (policy : Policy) (whole : Expr) (is : whole ≡ exp
       → IsBlame s policy (Typing b)
   told_typing b k h =
       let known = subst (λ x. All (IsKnown s) (names_in x)) is k in
-      (subst (IsCheckRefused s policy) (sym h.code) (Passing.for_type known h.first), (known, h))
+      (Passing.for_type known h.first, (known, h))
 
   pub told_passes : All (IsKnown s) (names_in whole) → All (HasBooleanType (expression_of policy)) (environments_of s)
       → Passes s policy

@@ -16,7 +16,7 @@ use Rattle.grammar_core.proofs.Forms.{Cases, by_forms, field_all, fold_literal, 
 use Rattle.grammar_core.proofs.Forms.{fold_unary, fold_binary, fold_field, fold_has, fold_set, fold_record}
 use Rattle.grammar_core.proofs.Forms.{fold_unary_call, fold_binary_call}
 use Rattle.type_checker.specs.schema.Schemas.{StatedSchema}
-use Rattle.validator.specs.declared.fault.TypeFault.{TypeFault}
+use Rattle.typing.specs.declared.fault.TypeFault.{TypeFault}
 use Rattle.validator.specs.Names.{Name, joined, names_in, names_step, operator_names}
 use Rattle.validator.specs.Unknown
 use Rattle.validator.specs.Unknown.{IsUnknown, IsKnown, FirstUnknown}

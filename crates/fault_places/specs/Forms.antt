@@ -139,15 +139,16 @@ member_at f a accesses n i =
 
 -- ## Other forms
 
--- `one_at a ts i`, `two_at f g i` and `three_at f g h i` are operand `i` of one, two and three operands.
-abbrev pub one_at : ExprTree → List Token → ℕ → Option Form
-one_at a ts i = if i == 0 then Some (whole a ts) else None
+-- `only_operand_at a ts i`, `operand_of_two f g i` and `operand_of_three f g h i` are operand `i` of one, two and three
+-- operands.
+abbrev pub only_operand_at : ExprTree → List Token → ℕ → Option Form
+only_operand_at a ts i = if i == 0 then Some (whole a ts) else None
 
-abbrev pub two_at : Form → Form → ℕ → Option Form
-two_at f g i = if i == 0 then Some f else (if i == 1 then Some g else None)
+abbrev pub operand_of_two : Form → Form → ℕ → Option Form
+operand_of_two f g i = if i == 0 then Some f else (if i == 1 then Some g else None)
 
-abbrev pub three_at : Form → Form → Form → ℕ → Option Form
-three_at f g h i =
+abbrev pub operand_of_three : Form → Form → Form → ℕ → Option Form
+operand_of_three f g h i =
     if i == 0 then Some f else (if i == 1 then Some g else (if i == 2 then Some h else None))
 
 -- `part_of f p` is the node `p` of the form `f`.
@@ -158,7 +159,7 @@ part_of f p = record { tree = f.tree; part = p; tokens = f.tokens }
 -- the number, which has no operands.
 abbrev pub minus_operand : tree ExprTree → ExprTree → List Token → ℕ → Option Form
 minus_operand (tree.Number t) a ts i = None
-minus_operand _ a ts i = one_at a ts i
+minus_operand _ a ts i = only_operand_at a ts i
 
 -- `is_negated c` tests whether the comparison `c` means the negation of another one: `>`, `>=` and `!=` do. The
 -- negation and the negated comparison are two core nodes with the same written form.
@@ -187,16 +188,16 @@ both false b = false
 -- only operand is the inner node of the form `f`.
 abbrev pub compared_at : Bool → Form → ExprTree → ExprTree → ℕ → Option Form
 compared_at true f a b i = if i == 0 then Some (part_of f part.Inner) else None
-compared_at false f a b i = two_at (whole a f.tokens) (whole b (drop 1 (drop (tree_count a) f.tokens))) i
+compared_at false f a b i = operand_of_two (whole a f.tokens) (whole b (drop 1 (drop (tree_count a) f.tokens))) i
 
 -- `in_test_at p f a path b i` is operand `i` of the node `p` of the form `f`, which is `a is path in b` and means
 -- `a is path && a in b`.
 abbrev pub in_test_at : FormNode → Form → ExprTree → PathTree → ExprTree → ℕ → Option Form
-in_test_at part.Whole f a path b i = two_at (part_of f part.Test) (part_of f part.Inner) i
+in_test_at part.Whole f a path b i = operand_of_two (part_of f part.Test) (part_of f part.Inner) i
 in_test_at (part.First n) f a path b i = None
-in_test_at part.Test f a path b i = one_at a f.tokens i
+in_test_at part.Test f a path b i = only_operand_at a f.tokens i
 in_test_at part.Inner f a path b i =
-    two_at (whole a f.tokens)
+    operand_of_two (whole a f.tokens)
     (whole b (drop 1 (drop (path_count path) (drop 1 (drop (tree_count a) f.tokens))))) i
 
 -- ## All forms
@@ -213,20 +214,20 @@ operand_step (tree.Parentheses a) f i = None
 operand_step (tree.Set members) f i = row_at members (drop 1 f.tokens) i
 operand_step (tree.Record entries) f i = entry_at entries (drop 1 f.tokens) i
 operand_step (tree.Member a accesses) f i = member_at f a accesses (kept f.part (length accesses)) i
-operand_step (tree.Not a) f i = one_at a (drop 1 f.tokens) i
+operand_step (tree.Not a) f i = only_operand_at a (drop 1 f.tokens) i
 operand_step (tree.Minus a) f i = minus_operand (out-ExprTree a) a (drop 1 f.tokens) i
 operand_step (tree.Product a more) f i = chain_at f a (piece_at a more f.tokens) (kept f.part (length more)) i
 operand_step (tree.Sum a terms) f i = chain_at f a (term_at a terms f.tokens) (kept f.part (length terms)) i
 operand_step (tree.Compare a operator b) f i = compared_at (both (is_outer f.part) (is_negated operator)) f a b i
-operand_step (tree.Has a key) f i = one_at a f.tokens i
-operand_step (tree.Like a t) f i = one_at a f.tokens i
-operand_step (tree.Is a path) f i = one_at a f.tokens i
+operand_step (tree.Has a key) f i = only_operand_at a f.tokens i
+operand_step (tree.Like a t) f i = only_operand_at a f.tokens i
+operand_step (tree.Is a path) f i = only_operand_at a f.tokens i
 operand_step (tree.IsIn a path b) f i = in_test_at f.part f a path b i
 operand_step (tree.And a more) f i = chain_at f a (piece_at a more f.tokens) (kept f.part (length more)) i
 operand_step (tree.Or a more) f i = chain_at f a (piece_at a more f.tokens) (kept f.part (length more)) i
 operand_step (tree.If a b c) f i =
     let second = drop 1 (drop (tree_count a) (drop 1 f.tokens)) in
-    three_at (whole a (drop 1 f.tokens)) (whole b second) (whole c (drop 1 (drop (tree_count b) second))) i
+    operand_of_three (whole a (drop 1 f.tokens)) (whole b second) (whole c (drop 1 (drop (tree_count b) second))) i
 
 -- `operand f i` is the form of operand `i` of the core node of `f`; `None` if the node has no such operand.
 abbrev pub operand : Form → ℕ → Option Form

@@ -3,9 +3,9 @@
 -- Source: FirstBlamed.antt.
 use Rattle.std.specs.Prelude.{◌≡◌, ℕ, List}
 use Rattle.grammar_core.specs.declared.expr.Expr.{Expr}
-use Rattle.typing.specs.Environment.{Environment, ExpressionFault}
+use Rattle.typing.specs.Environment.{Environment}
+use Rattle.typing.specs.declared.fault.TypeFault.{TypeFault}
 use Rattle.type_checker.specs.schema.Schemas.{StatedSchema}
-use Rattle.validator.specs.declared.fault.TypeFault.{TypeFault}
 use Rattle.validator.specs.Names.{Name}
 use Rattle.validator.specs.Passing.{FirstFaulty}
 use Rattle.fault_places.specs.FirstBlamed.{environment_blamed, blamed_there}
@@ -14,7 +14,7 @@ use Rattle.fault_places.specs.NamesAt.{FirstUnknownAt}
 -- `OneFirstBlame`: any two derivations of the first error of an expression blame the same place in the same
 -- environment.
 abbrev pub OneFirstBlame : Type 0
-OneFirstBlame = (x : Expr) (envs : List Environment) (m n : ExpressionFault) (g : FirstFaulty x envs m)
+OneFirstBlame = (x : Expr) (envs : List Environment) (m n : TypeFault) (g : FirstFaulty x envs m)
     (h : FirstFaulty x envs n) → (environment_blamed g ≡ environment_blamed h) × (blamed_there g ≡ blamed_there h)
 
 -- `OneUnknownName`: the first name of an expression that a schema does not declare is one name, and one path leads to

@@ -7,7 +7,7 @@ use Rattle.grammar_core.specs.declared.expr.Expr.{Expr}
 use Rattle.grammar_core.specs.declared.expr.Expr.TheOpen.{Expr-F}
 use Rattle.grammar_core.specs.declared.expr.Expr.TheViews.{out-Expr}
 use Rattle.type_checker.specs.schema.Schemas.{StatedSchema}
-use Rattle.validator.specs.declared.fault.TypeFault.{TypeFault}
+use Rattle.typing.specs.declared.fault.TypeFault.{TypeFault}
 use Rattle.validator.specs.Names.{Name, tested_type, entity, names_in, literal_names, operator_names}
 use Rattle.validator.specs.Unknown.{IsUnknown, IsKnown, FirstUnknown}
 use Rattle.typing.specs.Places.{operands_of}

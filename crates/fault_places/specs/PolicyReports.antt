@@ -5,7 +5,7 @@ use Rattle.std.specs.Prelude.{All}
 use Rattle.policy_grammar.specs.declared.policy.Policy.{Policy}
 use Rattle.policy_grammar.specs.PolicyExpression.{expression_of}
 use Rattle.type_checker.specs.schema.Schemas.{StatedSchema}
-use Rattle.validator.specs.declared.fault.TypeFault.{TypeFault}
+use Rattle.typing.specs.declared.fault.TypeFault.{TypeFault}
 use Rattle.validator.specs.Names.{names_of}
 use Rattle.validator.specs.Unknown.{IsKnown}
 use Rattle.validator.specs.Passing.{IsCheckRefused}

@@ -18,8 +18,8 @@ use Rattle.typing.specs.Types.{StaticType, FieldTypes}
 use Rattle.typing.specs.Environment.{Environment}
 use Rattle.typing.specs.Rows.{field_type_of}
 use Rattle.validator.specs.Names as names
-use Rattle.validator.specs.declared.fault.TypeFault.{TypeFault}
-use Rattle.validator.specs.declared.fault.TypeFault.TheVariants as fault
+use Rattle.typing.specs.declared.fault.TypeFault.{TypeFault}
+use Rattle.typing.specs.declared.fault.TypeFault.TheVariants as fault
 use Rattle.fault_places.specs.declared.blaming.TypeBlame.{TypeBlame}
 
 -- `type_word t` is the word for the type `t`.

@@ -7,9 +7,8 @@ ghost use Rattle.typing.specs.Types as types;
 ghost use Rattle.typing.specs.Rows.{field_type_of};
 
 use plain::NoMemory;
-use type_checker::{
-    Environment, ExpressionFault, Schema, StaticType, TypingEnvironment, drop_type, field_type,
-};
+use type_checker::{Environment, Schema, StaticType, TypingEnvironment, drop_type, field_type};
+use validator::TypeFault;
 
 /// Returns whether the type `owner` declares the attribute `name`, as required or optional.
 ///
@@ -36,7 +35,7 @@ pub fn is_declared<'a>(
             Ok(true)
         }
         Err(fault) => match fault {
-            ExpressionFault::NoMemory => Err(NoMemory),
+            TypeFault::NoMemory => Err(NoMemory),
             _ => Ok(false),
         },
     }

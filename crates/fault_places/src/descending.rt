@@ -1,6 +1,6 @@
 //! The path to the expression that a type error blames.
 ghost use Rattle.std.specs.Prelude.{◌≡◌, [], map, IfOk};
-ghost use Rattle.typing.specs.Environment as typing;
+ghost use Rattle.typing.specs.declared.fault.TypeFault.{TypeFault};
 ghost use Rattle.typing.specs.Faults.{Faults};
 ghost use Rattle.type_checker.specs.Views.{typing_environment, static_view};
 ghost use Rattle.typing.specs.BlamedExpressions.{blamed};
@@ -36,7 +36,7 @@ pub(crate) fn descend<'a>(
 ) -> Result<&'a Expr, NoMemory>
     requires known { known.old.items ≡ [] }
     requires path { path.old.items ≡ [] }
-    ensures { IfOk result (λ form. (n : typing.ExpressionFault)
+    ensures { IfOk result (λ form. (n : TypeFault)
         (h : Faults (typing_environment env.entry) [] whole.entry.now n)
         → blamed h ≡ record { path = path.new.items; form = form.now; types = map static_view types.new.items }) }
 {

@@ -233,7 +233,7 @@ fn member_operand<'a>(
 
 /// Returns the only operand if the index is 0.
 fn one_operand<'a>(tree: &'a Boxed<ExprTree>, tokens: &'a [Token], index: usize) -> Option<Form<'a>>
-    ensures { option_map spec.form_of result ≡ spec.one_at tree.entry.now tokens.entry.now index }
+    ensures { option_map spec.form_of result ≡ spec.only_operand_at tree.entry.now tokens.entry.now index }
 {
     if index == 0 {
         return Some(whole(tree, tokens));
@@ -259,7 +259,7 @@ fn negated_operand<'a>(
 /// Returns the operand at an index of two operands.
 fn two_operands<'a>(first: Form<'a>, second: Form<'a>, index: usize) -> Option<Form<'a>>
     ensures { option_map spec.form_of result
-        ≡ spec.two_at (spec.form_of first.entry) (spec.form_of second.entry) index }
+        ≡ spec.operand_of_two (spec.form_of first.entry) (spec.form_of second.entry) index }
 {
     if index == 0 {
         return Some(first);
@@ -363,7 +363,7 @@ fn if_operand<'a>(
     ensures { let first = drop 1 tokens.entry.now in
         let second = drop 1 (drop (tree_count test.entry.now) first) in
         option_map spec.form_of result
-        ≡ spec.three_at (spec.whole test.entry.now first) (spec.whole consequent.entry.now second)
+        ≡ spec.operand_of_three (spec.whole test.entry.now first) (spec.whole consequent.entry.now second)
         (spec.whole alternative.entry.now (drop 1 (drop (tree_count consequent.entry.now) second))) index }
 {
     let first = skip(tokens, 1);

@@ -6,9 +6,7 @@ ghost use Rattle.fault_places.specs.inner.Steps.{IsJudged};
 use grammar_core::Expr;
 use plain::NoMemory;
 use std::alloc::Global;
-use type_checker::{
-    BooleanType, Capability, ExpressionFault, StaticType, TypingEnvironment, judge_under,
-};
+use type_checker::{BooleanType, Capability, StaticType, TypingEnvironment, judge_under};
 use validator::TypeFault;
 
 /// The judgement on an expression.
@@ -40,8 +38,8 @@ pub(crate) fn judge<'a>(
             Ok(Judgement::Typed(truth))
         }
         Err(fault) => match fault {
-            ExpressionFault::NoMemory => Err(NoMemory),
-            _ => Ok(Judgement::Faulty(TypeFault::from(fault))),
+            TypeFault::NoMemory => Err(NoMemory),
+            _ => Ok(Judgement::Faulty(fault)),
         },
     }
 }

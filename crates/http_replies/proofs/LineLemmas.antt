@@ -6,6 +6,8 @@ use Rattle.std.proofs.lemmas.Bool.{cases_lt, agree_below_at}
 use Rattle.std.specs.Prelude.{codes, decimal}
 use Rattle.site.specs.stamped_store.declared.entry.Stamp.{Stamp}
 use Rattle.http_streams.specs.ReplyText.{error_line as stream_line}
+use Rattle.answer_lines.specs.Refusals.{number_in}
+use Rattle.answer_lines.specs.declared.place.Place.{Place}
 use Rattle.answer_lines.specs.Refusals.{error_line}
 use Rattle.json.specs.Print.{escape_byte, escape}
 use Rattle.json.proofs.Printed.Strings.{escape_byte_plain}
@@ -80,10 +82,10 @@ pub taken_pieces : (count : ℕ) → taken_line count ≡ codes "{\"taken\":" ++
 unfolding taken_line escape_byte
 taken_pieces count = refl
 
-pub fault_pieces : (code : ℕ) (place within : Option ℕ)
+pub fault_pieces : (code : ℕ) (place : Option Place) (within : Option ℕ)
     → fault_line code place within
     ≡ codes "{\"error\":{\"code\":" ++ (decimal code ++ (codes ",\"place\":"
-    ++ (number_or_null place ++ (codes ",\"within\":" ++ (number_or_null within ++ codes "}}")))))
+    ++ (number_or_null (number_in place) ++ (codes ",\"within\":" ++ (number_or_null within ++ codes "}}")))))
 unfolding error_line escape_byte
 fault_pieces code None None = simp append_assoc
 fault_pieces code None (Some w) = simp append_assoc
@@ -125,8 +127,8 @@ put_told t s impossible named p q r o i =
     (site_end s.site) p q r o i
     ∙ ap (λ (l : List ℕ). t ++ l) (sym (put_pieces s impossible named))
 
-pub fault_told : (t : List ℕ) (code : ℕ) (place within : Option ℕ) (number : ℕ) (first second : Option ℕ)
-    {u v w x y z n : List ℕ} → number ≡ code → first ≡ place → second ≡ within
+pub fault_told : (t : List ℕ) (code : ℕ) (place : Option Place) (within : Option ℕ) (number : ℕ) (first second : Option ℕ)
+    {u v w x y z n : List ℕ} → number ≡ code → first ≡ number_in place → second ≡ within
     → u ≡ t ++ codes "{\"error\":{\"code\":" → v ≡ u ++ decimal number → w ≡ v ++ codes ",\"place\":"
     → x ≡ w ++ number_or_null first → y ≡ x ++ codes ",\"within\":" → z ≡ y ++ number_or_null second
     → n ≡ z ++ codes "}}" → n ≡ t ++ fault_line code place within

@@ -5,6 +5,7 @@ use Rattle.std.specs.Prelude.{ℕ, Bool, List, Option, codes}
 use Rattle.serde_json.specs.Data.{Data, boolean, number, unsigned, string, object, no_members, member}
 use Rattle.serde_json.specs.Written.{compact_text}
 use Rattle.site.specs.stamped_store.declared.entry.Stamp.{Stamp}
+use Rattle.answer_lines.specs.declared.place.Place.{Place}
 use Rattle.answer_lines.specs.Refusals.{error_line}
 
 -- `stamp_line s` is the line of the stamp `s`: {"count":2,"site":"00001"}
@@ -39,5 +40,5 @@ found_line text s = compact_text (found_json text s)
 
 -- `fault_line code place within` is the line of an error with the code `code`, the place `place`, and the code `within`
 -- of the inner error: {"error":{"code":30,"place":0,"within":null}}
-abbrev pub fault_line : ℕ → Option ℕ → Option ℕ → List ℕ
+abbrev pub fault_line : ℕ → Option Place → Option ℕ → List ℕ
 fault_line code place within = error_line (record { code = code; place = place; within = within })

@@ -15,12 +15,12 @@ mod status;
 pub use answering::reply_to;
 pub use laws::{errors_have_one_line, stamps_have_plain_lines};
 pub use reporting::{
-    report_answer, report_fault, report_found, report_message, report_put, report_stamp,
-    report_status, report_taken,
+    fault_place, report_answer, report_fault, report_found, report_message, report_put,
+    report_stamp, report_status, report_taken,
 };
 
 // of lower layers
-pub use answer_lines::{Answer, Refusal, answer_line, error_line};
+pub use answer_lines::{Answer, Place, Refusal, answer_line, error_line};
 pub use site::{
     Event, EventReply, Found, Input, Operation, Put, Reply, Scratch, Site, SiteFault, SiteName,
     Stamp, Taken, World, inputs_have_one_outcome, is_site_name, runs_are_sound,

@@ -1,11 +1,13 @@
 //! Appends the lines that need no allocation, to a text with enough spare capacity.
 ghost use Rattle.std.specs.Prelude.{◌≡◌, ◌≤◌, ◌+◌, ◌++◌, length, vec_len, decimal};
 ghost use Rattle.std.specs.Vec.{vec_capacity};
+ghost use Rattle.answer_lines.specs.Refusals.{number_in};
 ghost use Rattle.http_replies.specs.Lines.{fault_line, put_line, stamp_line, taken_line};
 ghost use Rattle.site.specs.stamped_store.SiteNames.{IsSiteName};
 ghost use Rattle.http_replies.specs.inner.Pieces.{boolean_word, number_or_null, site_end};
 
 use crate::LINE_ROOM;
+use answer_lines::Place;
 use itoa::Buffer;
 use site::{SiteName, Stamp};
 
@@ -105,12 +107,12 @@ pub(crate) fn append_taken(text: &mut Vec<u8>, count: usize)
     append(text, b"}");
 }
 
-/// Returns a place as a number of 64 bits.
-fn place_number(place: Option<usize>) -> Option<u64>
-    ensures { result ≡ place }
+/// Returns the number of a place as a number of 64 bits.
+fn place_number(place: Option<Place>) -> Option<u64>
+    ensures { result ≡ number_in place }
 {
     match place {
-        Some(place) => Some(place as u64),
+        Some(place) => Some(place.number() as u64),
         None => None,
     }
 }
@@ -126,7 +128,7 @@ fn within_number(within: Option<u8>) -> Option<u64>
 }
 
 /// Appends the line of an error.
-pub(crate) fn append_fault(text: &mut Vec<u8>, code: u16, place: Option<usize>, within: Option<u8>)
+pub(crate) fn append_fault(text: &mut Vec<u8>, code: u16, place: Option<Place>, within: Option<u8>)
     requires room { vec_len text.old + LINE_ROOM ≤ vec_capacity text.old }
     ensures items { text.new.items ≡ text.old.items ++ fault_line code place within }
     ensures kept { vec_capacity text.old ≤ vec_capacity text.new }

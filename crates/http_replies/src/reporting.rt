@@ -5,6 +5,7 @@
 //! The capacity of the text does not shrink.
 ghost use Rattle.std.specs.Prelude.{◌≡◌, ◌≤◌, ◌+◌, ◌++◌, List, ℕ, OnOk, OnErr, option_map, vec_len};
 ghost use Rattle.std.specs.Vec.{vec_capacity};
+ghost use Rattle.http_replies.specs.Replies.{fault_place};
 ghost use Rattle.http_replies.specs.Replies.{answer_reply, fault_reply, found_reply, message_reply, put_reply};
 ghost use Rattle.http_replies.specs.Replies.{stamp_reply, status_reply, taken_reply, IsReplyOrNoMemory};
 
@@ -12,11 +13,23 @@ use crate::LINE_ROOM;
 use crate::line::{append_fault, append_put, append_stamp, append_taken};
 use crate::long::{append_answer, append_found};
 use crate::status::refusal_status;
-use answer_lines::Answer;
+use answer_lines::{Answer, Place};
 use http::StatusCode;
 use plain::{Items, NoMemory};
 use site::{Put, SiteFault, Stamp, Taken};
 use std::alloc::Global;
+
+/// Returns the place of an error of the site: a byte in a policy's text, or the entry or stamp of a message; `None` if
+/// the error has neither.
+pub fn fault_place(fault: SiteFault) -> Option<Place>
+    ensures { result ≡ fault_place fault }
+{
+    match fault {
+        SiteFault::Policy(fault) => fault.place().map(Place::Byte),
+        SiteFault::Message(fault) => fault.place().map(Place::Index),
+        _ => None,
+    }
+}
 
 /// Appends an error of the site: its code, its place and the code of the inner error. Allocates nothing.
 pub fn report_fault(text: &mut Vec<u8>, fault: SiteFault) -> StatusCode
@@ -25,7 +38,12 @@ pub fn report_fault(text: &mut Vec<u8>, fault: SiteFault) -> StatusCode
     ensures body { text.new.items ≡ text.old.items ++ (fault_reply fault).1 }
     ensures kept { vec_capacity text.old ≤ vec_capacity text.new }
 {
-    append_fault(text, u16::from(fault.code()), fault.place(), fault.within());
+    append_fault(
+        text,
+        u16::from(fault.code()),
+        fault_place(fault),
+        fault.within(),
+    );
     refusal_status(fault.code())
 }
 
@@ -86,7 +104,7 @@ pub fn report_taken(text: &mut Vec<u8>, outcome: Result<Taken, SiteFault>) -> St
             StatusCode::OK
         }
         Ok(Taken::Short(count)) => {
-            append_fault(text, 1, Some(count), None);
+            append_fault(text, 1, Some(Place::Taken(count)), None);
             StatusCode::SERVICE_UNAVAILABLE
         }
         Err(fault) => report_fault(text, fault),

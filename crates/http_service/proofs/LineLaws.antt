@@ -14,13 +14,16 @@ use Rattle.http_service.specs.OneLine.{HasNoLineFeed, IsOneLine}
 use Rattle.http_service.specs.Routes.{Asked, route_stated}
 use Rattle.http_replies.proofs.LineLemmas.{stamp_pieces, put_pieces}
 use Rattle.http_replies.specs.answer_lines.Lines.{answer_json, answer_line}
+use Rattle.http_replies.specs.answer_lines.declared.place.Place.{Place}
+use Rattle.http_replies.specs.answer_lines.declared.place.Place.TheVariants as position
 use Rattle.http_replies.specs.answer_lines.Refusals.{error_line, refusal_json}
 use Rattle.http_replies.specs.inner.Pieces.{boolean_word, site_end}
 use Rattle.http_replies.specs.Answers.{Replies}
 use Rattle.http_replies.specs.Lines.{fault_line, found_json, found_line, put_line, stamp_line, taken_line}
 use Rattle.http_replies.specs.Replies.{fault_reply, put_reply, stamp_reply}
 use Rattle.http_replies.specs.Reports.{reported}
-use Rattle.http_replies.specs.site.Faults.{code_of, place_of, within_of}
+use Rattle.http_replies.specs.site.Faults.{code_of, within_of}
+use Rattle.http_replies.specs.Replies.{fault_place}
 use Rattle.http_replies.specs.site.Inputs.{Input}
 use Rattle.http_replies.specs.site.Inputs as input
 use Rattle.http_replies.specs.site.Readings.{parsed}
@@ -226,12 +229,12 @@ found_free : (text : List ℕ) (s : Stamp) → HasNoLineFeed (found_line text s)
 unfolding found_line
 found_free text s = compact_free (found_json text s)
 
-fault_free : (code : ℕ) (place within : Option ℕ) → HasNoLineFeed (fault_line code place within)
+fault_free : (code : ℕ) (place : Option Place) (within : Option ℕ) → HasNoLineFeed (fault_line code place within)
 unfolding error_line
 fault_free code place within = compact_free (refusal_json (record { code = code; place = place; within = within }))
 
 site_fault_free : (f : SiteFault) → HasNoLineFeed (fault_reply f).1
-site_fault_free f = fault_free (code_of f) (place_of f) (within_of f)
+site_fault_free f = fault_free (code_of f) (fault_place f) (within_of f)
 
 -- a reply that is no message
 abbrev IsNoMessage : Reply → Type 0
@@ -245,7 +248,7 @@ reported_free (told.Put (Err f)) h = site_fault_free f
 reported_free (told.Stamped (Ok stamp)) h = stamp_free stamp
 reported_free (told.Stamped (Err f)) h = site_fault_free f
 reported_free (told.Taken (Ok (All count))) h = taken_free count
-reported_free (told.Taken (Ok (Short count))) h = fault_free 1 (Some count) None
+reported_free (told.Taken (Ok (Short count))) h = fault_free 1 (Some (position.Taken count)) None
 reported_free (told.Taken (Err f)) h = site_fault_free f
 reported_free (told.Answered (Ok answer)) h = compact_free (answer_json answer)
 reported_free (told.Answered (Err f)) h = site_fault_free f

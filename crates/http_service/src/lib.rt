@@ -28,15 +28,17 @@ pub use serving::{serve, serve_logged};
 pub use site_service::{LoggedService, SiteService};
 
 // of this layer
-pub use http_replies::{LINE_ROOM, report_fault, report_put, report_stamp, report_taken};
+pub use http_replies::{
+    LINE_ROOM, fault_place, report_fault, report_put, report_stamp, report_taken,
+};
 pub use http_streams::fetch::{FetchFault, fetch};
 pub use http_streams::serve::{LoggedFault, StreamFault};
 pub use http_streams::{Ask, Counted, Fed, Kept, Plan, Sink, Source};
 
 // of lower layers
 pub use http_replies::{
-    Answer, Event, EventReply, Found, Input, Operation, Put, Refusal, Reply, Site, SiteFault,
-    SiteName, Stamp, Taken, World, answer_line, error_line, simulate,
+    Answer, Event, EventReply, Found, Input, Operation, Place, Put, Refusal, Reply, Site,
+    SiteFault, SiteName, Stamp, Taken, World, answer_line, error_line, simulate,
 };
 
 /// An upper bound of the bytes of a line without method and target.

@@ -7,6 +7,7 @@ use crate::handlers::{answer, answer_with_line};
 use crate::log_line::put_unread_line;
 use http::StatusCode;
 use http_replies::Site;
+use http_streams::CommitFailed;
 use http_streams::service::{Answers, Service};
 use json_words::Scratch;
 use std::alloc::Global;
@@ -73,6 +74,10 @@ impl Service for SiteService<'_> {
     {
         let _ = line;
     }
+
+    fn commit(&mut self) -> Result<(), CommitFailed> {
+        Ok(())
+    }
 }
 
 /// A site that answers HTTP requests, and makes the line of each for a log.
@@ -125,5 +130,9 @@ impl Service for LoggedService<'_> {
         ensures kept { vec_capacity line.old ≤ vec_capacity line.new }
     {
         put_unread_line(line, status)
+    }
+
+    fn commit(&mut self) -> Result<(), CommitFailed> {
+        self.service.commit()
     }
 }

@@ -7,7 +7,7 @@ use Rattle.http_streams.specs.Request.{IsUnfinished}
 use Rattle.http_streams.specs.Stream.{Answering, Closes, EndsByReply, RepliesInPart, AnswersAllRequests, Serves}
 use Rattle.http_streams.proofs.StreamLemmas.{Exchanges-append, Serves-append, Serves-push}
 use Rattle.http_streams.proofs.UniqueLemmas.{agree_on, refuses-append, exchange_unique, open_not_ended, to_end}
-use Rattle.http_streams.proofs.OneRequest.{whole_not_unfinished}
+use Rattle.http_streams.specs.RequestLaws.{whole_not_unfinished}
 
 pub replies_in_part-append : {S : Type 0} (answers : Answering S) (old new : S) (bytes out more : List ℕ) → RepliesInPart answers old bytes out new
     → RepliesInPart answers old (bytes ++ more) out new

@@ -1,4 +1,6 @@
 pub mod BeginLemmas
+mod FramedLemmas
+pub mod TurnLemmas
 mod LogLemmas
 pub mod MemoryLemmas
 pub mod Simulated

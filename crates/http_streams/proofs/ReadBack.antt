@@ -27,7 +27,8 @@ use Rattle.http_streams.specs.declared.cut.Cut.{Cut}
 use Rattle.http_streams.specs.declared.cut.Cut.TheVariants as Cuts
 use Rattle.http_streams.specs.declared.cut.Framing.TheVariants.{Body, Refused}
 use Rattle.http_streams.specs.declared.fields.Announced.TheVariants.{Size}
-use Rattle.http_streams.proofs.OneRequest.{ReadsWhole-append, admits_unique, refused-append, whole_not_unfinished, whole_or_refused, whole_unique}
+use Rattle.http_streams.specs.RequestLaws.{ReadsWhole-append, admits_unique, whole_not_unfinished, whole_unique}
+use Rattle.http_streams.proofs.OneRequest.{refused-append, whole_or_refused}
 
 -- ---- bytes that are no blanks
 

@@ -11,7 +11,7 @@ use Rattle.http_streams.specs.declared.serve.StreamFault.TheVariants as fault
 module _ {S T : Type 0} (says : Answering S) (tells : Answering T) (Meets : S → T → Type 0)
     (lifts : (a b : S) (x : T) (m t body : List ℕ) (status : StatusCode) (line : List ℕ) → Meets a x
     → says a m t body status line b → (y : T) × tells x m t body status line y × Meets b y) where
-  exchanges : (a b : S) (x : T) (bytes : List ℕ) (last : Bool) (out rest : List ℕ) → Meets a x
+  pub exchanges : (a b : S) (x : T) (bytes : List ℕ) (last : Bool) (out rest : List ℕ) → Meets a x
       → Exchanges says a bytes last out b rest → (y : T) × Exchanges tells x bytes last out y rest × Meets b y
   exchanges a b x bytes last out rest meets h =
       let one = lifts a b x h.head.method h.head.target h.body h.status h.text meets h.answered in (

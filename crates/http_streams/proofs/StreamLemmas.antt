@@ -4,7 +4,7 @@ use Rattle.std.proofs.Common.{append_assoc, append-nil}
 use Rattle.httparse.specs.Spans.{span_bytes}
 use Rattle.http_streams.specs.ReplyText.{reply_text}
 use Rattle.http_streams.specs.Request.{IsUnfinished, IsWholeAt}
-use Rattle.http_streams.proofs.OneRequest.{ReadsWhole-append}
+use Rattle.http_streams.specs.RequestLaws.{ReadsWhole-append}
 use Rattle.http_streams.specs.declared.cut.Parts.{Parts}
 use Rattle.http.specs.declared.status.StatusCode.{StatusCode}
 use Rattle.http_streams.specs.Stream.{Answering, Closes, EndsByReply, Exchanges, RepliesInPart, AnswersAllRequests, Serves, StopsWithinReply}

@@ -9,8 +9,10 @@ use Rattle.http_streams.specs.ReplyText.{reply_text, error_line}
 use Rattle.http.specs.declared.status.StatusCode.{StatusCode}
 use Rattle.http_streams.specs.Stream.{Answering, Closes, EndsByReply, Exchanges, Refuses, AnswersAllRequests, Serves}
 use Rattle.http_streams.specs.Laws.{AgreeOn, AnswersAll, DiffersInBadTarget, HasOneAnswer, EndsInBadTarget}
-use Rattle.http_streams.proofs.OneRequest.{admits_unique, refused-append, refused_unique, whole_not_unfinished}
-use Rattle.http_streams.proofs.OneRequest.{whole_or_refused, whole_unique}
+use Rattle.http_streams.specs.RequestLaws.{admits_unique, whole_not_unfinished}
+use Rattle.http_streams.proofs.OneRequest.{refused-append, refused_unique}
+use Rattle.http_streams.specs.RequestLaws.{whole_unique}
+use Rattle.http_streams.proofs.OneRequest.{whole_or_refused}
 use Rattle.http_streams.proofs.StreamLemmas.{Exchanges-append, Serves-append}
 
 refused_unfinished : (rest : List ℕ) (status : StatusCode) → IsRefused rest status → IsUnfinished rest

@@ -11,6 +11,9 @@ pub mod Fields
 pub mod Request
 pub mod Reply
 pub mod FramingLaws
+pub mod FramedRequests
+pub mod RequestLaws
+pub mod FramedLaws
 pub mod RequestRoundTrip
 pub mod Devices
 pub mod Memory

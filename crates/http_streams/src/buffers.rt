@@ -22,7 +22,7 @@ pub(crate) enum FillFault {
 
 /// Returns memory for the fields of a head: one field for each byte that a head may have. So a head with too many
 /// fields is still parsed to its end.
-pub(crate) fn room_for_heads(alloc: Global) -> Result<Vec<HeaderSpan>, AllocError>
+pub fn room_for_heads(alloc: Global) -> Result<Vec<HeaderSpan>, AllocError>
     ensures { IfOk result (λ room. MAX_HEAD ≤ vec_len room) }
 {
     vec![in alloc; EMPTY_HEADER_SPAN; MAX_HEAD]
@@ -49,7 +49,8 @@ pub(crate) fn room_for_replies(alloc: Global) -> Result<Vec<u8>, AllocError>
 /// Removes the first `count` bytes.
 pub(crate) fn drop_front(bytes: &mut Vec<u8>, count: usize)
     requires { count ≤ vec_len bytes.old }
-    ensures { bytes.new.items ≡ drop count bytes.old.items }
+    ensures items { bytes.new.items ≡ drop count bytes.old.items }
+    ensures capacity { vec_capacity bytes.new ≡ vec_capacity bytes.old }
 {
     if count == 0 {
         return;

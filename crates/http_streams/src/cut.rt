@@ -54,7 +54,7 @@ fn needs_length(method: &[u8]) -> bool
 }
 
 /// Returns the length of the body, or the status with which the head is rejected.
-fn framing_at(buf: &[u8], headers: &[HeaderSpan], method: &[u8]) -> Framing
+fn read_framing(buf: &[u8], headers: &[HeaderSpan], method: &[u8]) -> Framing
     requires { All (IsHeaderWithin (length buf.now)) headers.now }
     ensures { result ≡ framing method.now (map (header_bytes buf.now) headers.now) }
 {
@@ -100,7 +100,7 @@ fn cut_body(buf: &[u8], seen: &[u8], headers: &[HeaderSpan], head: &RequestSpans
     ensures { IsCut buf.now result }
 {
     let left = buf.len() - head.len;
-    match framing_at(seen, headers, head.method.of(seen)) {
+    match read_framing(seen, headers, head.method.of(seen)) {
         Framing::Refused(status) => Cut::Refused(status),
         Framing::Body(size) => {
             if is_cut_off(left, size) {

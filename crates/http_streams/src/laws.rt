@@ -1,9 +1,12 @@
-//! Theorems about the replies to a stream. The functions are no-ops.
+//! Theorems about the replies to a stream, and to the requests of many connections. The functions are no-ops.
 ghost use Rattle.std.specs.Prelude.{ℕ, List, ◌⊎◌, []};
+ghost use Rattle.http_streams.specs.FramedLaws.{PiecesMakeNoDifference, QuietHaveReplies, TurnsAreReplied};
 ghost use Rattle.http_streams.specs.Laws.{AgreeOn, AnswersAll, BeginsAnswer, HasOneAnswer};
 ghost use Rattle.http_streams.specs.Laws.{HasFirst503, StopsIn, in_memory};
 
-use crate::service::Answers;
+use crate::framed::Framed;
+use crate::service::{Answers, Service};
+use connections::laws::{one_cut, quiet_are_answered, stories_fit};
 
 /// Proves that a stream has at most one answer without a reply 503 (out of memory), however the stream is split into
 /// reads. Two such answers, from states that are the same (`S.same`), send equal bytes, and the states afterwards are
@@ -38,3 +41,18 @@ pub fn in_memory_or_503<S: Answers>()
         → StopsIn (in_memory S.answers) old stream out new
         ⊎ ((unsent : List ℕ) × HasFirst503 S.answers old stream out unsent) }
 {}
+
+/// Proves that the requests of many connections are answered like those of one stream, whatever happens at the other
+/// connections. Each turn of a connection is a reply of the service. If moreover no connection has a whole request
+/// left, on each that goes on the bytes that came are exactly the requests that were answered, in order, and less than
+/// one more, and its writer took exactly their replies. The pieces in which the bytes came make no difference to this.
+/// No-op.
+pub fn requests_are_answered<S: Service>()
+    ensures turns { TurnsAreReplied S.answers S.lines S.refusal_line S.commits S.commit_fails }
+    ensures quiet { QuietHaveReplies S.answers S.lines S.refusal_line S.commits S.commit_fails }
+    ensures pieces { PiecesMakeNoDifference S.answers }
+{
+    stories_fit();
+    quiet_are_answered::<Framed<S>>();
+    one_cut::<Framed<S>>();
+}

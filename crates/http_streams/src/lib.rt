@@ -10,6 +10,7 @@ mod cut;
 pub mod devices;
 pub mod fetch;
 mod fields;
+pub mod framed;
 pub mod framing_laws;
 pub mod laws;
 mod limits;
@@ -22,9 +23,13 @@ mod request;
 pub mod serve;
 pub mod service;
 
+pub use buffers::room_for_heads;
 pub use devices::{Counted, Sink, Source};
 pub use memory::{Fed, Kept, Plan};
 pub use parts::{Ask, is_host, is_method, is_target};
+
+// of this layer
+pub use connections::service::CommitFailed;
 
 /// The most bytes of a head, with its empty line.
 pub const MAX_HEAD: usize = 16_384;

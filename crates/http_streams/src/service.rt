@@ -1,9 +1,10 @@
 //! Services, which answer requests.
-ghost use Rattle.std.specs.Prelude.{◌≡◌, ◌≤◌, ◌+◌, ℕ, List, [], ◌++◌, vec_len};
+ghost use Rattle.std.specs.Prelude.{◌≡◌, ◌≤◌, ◌+◌, ℕ, List, [], ◌++◌, OnErr, OnOk, vec_len};
 ghost use Rattle.std.specs.Vec.{vec_capacity};
 ghost use Rattle.http_streams.specs.declared.TheConstants.{REPLY_ROOM};
 ghost use Rattle.http.specs.declared.status.StatusCode.{StatusCode};
 
+use connections::service::CommitFailed;
 use http::StatusCode;
 
 /// A state with a relation between requests and their answers, for the theorems about streams. The trait has no code.
@@ -27,6 +28,12 @@ pub trait Service: Answers {
 
     // The length of the longest line that is made without allocating.
     ghost line_room: { ℕ } = { 0 };
+
+    // Relates the states around a commit that succeeded. By default, equal states.
+    ghost commits: { Self → Self → Type 0 } = { λ old new. new ≡ old };
+
+    // Relates the states around a commit that failed. By default, none does.
+    ghost commit_fails: { Self → Self → Type 0 } = { λ _ _. ⊥ };
 
     /// Appends the body of the reply to `text`, puts the line for the log, if there is one, into `line`, and returns
     /// the status.
@@ -61,4 +68,13 @@ pub trait Service: Answers {
         requires room { line_room ≤ vec_capacity line.old }
         ensures line { line.new.items ≡ refusal_line status }
         ensures kept { vec_capacity line.old ≤ vec_capacity line.new };
+
+    /// Commits all replies since the last call. A service without a journal does nothing.
+    ///
+    /// # Errors
+    ///
+    /// - `CommitFailed`: nothing of these replies may go out.
+    fn commit(&mut self) -> Result<(), CommitFailed>
+        ensures ok { OnOk result (commits self.old self.new) }
+        ensures err { OnErr result (commit_fails self.old self.new) };
 }

@@ -12,7 +12,7 @@ ghost use Rattle.journal.specs.Survivors.{IsEither, IsSafe, IsSame, IsTornOnce};
 ghost use Rattle.journal.specs.Rounds.{AreRounds, steps_of};
 ghost use Rattle.journal.specs.Recovery.{IsOpening, IsRecovered, IsRecoveryFault};
 
-use crate::replica::Replica;
+use crate::replica::{Answering, Replica};
 
 /// Proves that rounds are safe at each moment, whatever the calls return: whatever file a crash leaves, it holds the
 /// updates from before, and those of a first part of the steps, among them each step whose reply was sent, and nothing
@@ -32,7 +32,7 @@ pub fn rounds_are_safe<R: Replica>()
 /// Whatever updates a file that the crash leaves holds, they are `first` and those of the first steps, among them each
 /// step whose reply was sent; and these steps alone lead from `s` to the store of what is found. So a site that
 /// restarts from the file goes on with a run in which the lost steps, whose replies no one saw, never were. No-op.
-pub fn acknowledged_changes_survive<R: Replica>()
+pub fn acknowledged_changes_survive<R: Answering>()
     ensures { (x : R.Setting) (first : List Update) (done : List Done) (before : List (List ℕ)) (m : Moment)
         (file : List ℕ) (found : List Update) (s t : Store) → s ≡ store_of first → Chain (R.steps x) done s t
         → IsSafe (R.states x) R.checked first done before m → IsLeftBy R.checked m file
@@ -42,7 +42,7 @@ pub fn acknowledged_changes_survive<R: Replica>()
 {}
 
 /// Proves that runs join: a run from where another ended is one run with it. No-op.
-pub fn runs_join<R: Replica>()
+pub fn runs_join<R: Answering>()
     ensures { (x : R.Setting) (one two : List Done) (s m t : Store) → Chain (R.steps x) one s m
         → Chain (R.steps x) two m t → Chain (R.steps x) (one ++ two) s t }
 {}

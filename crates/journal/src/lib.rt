@@ -16,6 +16,6 @@ mod rounds;
 pub use compaction::compact;
 pub use device::{Device, DeviceFailed, Machine};
 pub use fault::{CommitFault, RecoveryFault};
-pub use recovery::{open, recover};
-pub use replica::{RecordFault, Replica};
+pub use recovery::{first_line, open, recover};
+pub use replica::{Answering, RecordFault, Replica};
 pub use rounds::{Exchange, answer_all, commit, serve_round};

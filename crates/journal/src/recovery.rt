@@ -139,7 +139,7 @@ fn take_line<R: Replica>(replica: &mut R, line: &[u8], at: usize) -> Result<(), 
 }
 
 /// Returns the first line of some bytes and what follows its line feed; `None` if they have no line feed.
-fn first_line(bytes: &[u8]) -> Option<(&[u8], &[u8])>
+pub fn first_line(bytes: &[u8]) -> Option<(&[u8], &[u8])>
     ensures { MatchOption result (IsLine bytes.now)
         (λ p. IsLine p.0.now × (bytes.now ≡ p.0.now ++ 10 ∷ p.1.now)) }
 {

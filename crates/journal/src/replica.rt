@@ -17,7 +17,7 @@ pub enum RecordFault {
     NoRecord,
 }
 
-/// A replica of a store, generic in its requests and records.
+/// A replica of a store, generic in its records.
 pub trait Replica {
     /// What the records and steps of a replica depend on and no request changes, such as its schema and its name.
     type Setting;
@@ -36,17 +36,6 @@ pub trait Replica {
 
     // Tests whether a line has a right checksum.
     ghost checked: { List ℕ → Bool };
-
-    // `steps x s request us reply t` holds if, in the setting `x` and the store `s`, the request may be answered by the
-    // reply, where the updates `us` are applied and lead to the store `t`.
-    ghost steps: { Self.Setting → Store → List ℕ → List Update → List ℕ → Store → Type 0 };
-
-    /// Answers a request. Puts the reply into `reply`.
-    fn answer(&mut self, request: &[u8], reply: &mut Vec<u8>)
-        ensures setting { setting self.new ≡ setting self.old }
-        ensures step { (us : List Update)
-            × steps (setting self.old) (store self.old) request.now us reply.new.items (store self.new)
-            × (unrecorded self.new ≡ unrecorded self.old ++ us) };
 
     /// Puts the entry of the unrecorded updates into `entry`: their record with a line feed; nothing without updates.
     ///
@@ -85,25 +74,39 @@ pub trait Replica {
     ///
     /// # Errors
     ///
-    /// - `NoMemory`: an allocation failed.
-    /// - `NoRecord`: the bytes are not a record of this replica.
+    /// - `NoMemory`: an allocation failed. The first of the updates may be applied: drop the replica.
+    /// - `NoRecord`: the bytes are not a record of this replica. Nothing is applied.
     fn take(&mut self, line: &[u8]) -> Result<(), RecordFault>
         ensures setting { setting self.new ≡ setting self.old }
         ensures unrecorded { unrecorded self.new ≡ unrecorded self.old }
         ensures ok { OnOk result ((us : List Update) × states (setting self.old) line.now us
             × (store self.new ≡ store_of (updates (store self.old) ++ us))) }
-        ensures err { OnErr result (store self.new ≡ store self.old) }
+        ensures err { result ≡ Err NoRecord → store self.new ≡ store self.old }
         ensures refused { result ≡ Err NoRecord → (us : List Update) → states (setting self.old) line.now us → ⊥ };
 
     // A record has a right checksum.
     ghost records_are_checked: { (x : Self.Setting) (line : List ℕ) (us : List Update) → states x line us
         → checked line ≡ true };
 
-    // A step applies its updates.
-    ghost applied: { (x : Self.Setting) (s : Store) (request : List ℕ) (us : List Update) (reply : List ℕ) (t : Store)
-        → steps x s request us reply t → t ≡ store_of (updates s ++ us) };
-
     // A record states one list of updates.
     ghost one_meaning: { (x : Self.Setting) (line : List ℕ) (us vs : List Update) → states x line us → states x line vs
         → us ≡ vs };
+}
+
+/// A replica that answers requests, which are bytes.
+pub trait Answering: Replica {
+    // `steps x s request us reply t` holds if, in the setting `x` and the store `s`, the request may be answered by the
+    // reply, where the updates `us` are applied and lead to the store `t`.
+    ghost steps: { Self.Setting → Store → List ℕ → List Update → List ℕ → Store → Type 0 };
+
+    /// Answers a request. Puts the reply into `reply`.
+    fn answer(&mut self, request: &[u8], reply: &mut Vec<u8>)
+        ensures setting { Self.setting self.new ≡ Self.setting self.old }
+        ensures step { (us : List Update)
+            × steps (Self.setting self.old) (Self.store self.old) request.now us reply.new.items (Self.store self.new)
+            × (Self.unrecorded self.new ≡ Self.unrecorded self.old ++ us) };
+
+    // A step applies its updates.
+    ghost applied: { (x : Self.Setting) (s : Store) (request : List ℕ) (us : List Update) (reply : List ℕ) (t : Store)
+        → steps x s request us reply t → t ≡ store_of (updates s ++ us) };
 }

@@ -8,7 +8,7 @@ ghost use Rattle.journal.specs.inner.Calls.{CommitsAndSends, Records};
 
 use crate::device::{Device, DeviceFailed, Machine};
 use crate::fault::CommitFault;
-use crate::replica::Replica;
+use crate::replica::{Answering, Replica};
 
 /// A request, and memory for its reply.
 #[derive(Drop)]
@@ -28,7 +28,7 @@ pub struct Exchange {
 ///
 /// - `NoMemory`: the record could not be allocated; no call was made.
 /// - `Failed`: the record could not be appended or synced, and no reply was sent; or a reply could not be sent.
-pub fn serve_round<M: Machine, R: Replica>(
+pub fn serve_round<M: Machine, R: Answering>(
     machine: &mut M,
     replica: &mut R,
     round: &mut [Exchange],
@@ -49,7 +49,7 @@ pub fn serve_round<M: Machine, R: Replica>(
 }
 
 /// Answers the requests of a round in order. Their updates are unrecorded: [`commit`] them before a reply is sent.
-pub fn answer_all<R: Replica>(replica: &mut R, round: &mut [Exchange])
+pub fn answer_all<R: Answering>(replica: &mut R, round: &mut [Exchange])
     ensures setting { R.setting replica.new ≡ R.setting replica.old }
     ensures asked { requests_in round.new ≡ requests_in round.old }
     ensures answered { (done : List Done) × (requests_of done ≡ requests_in round.old)

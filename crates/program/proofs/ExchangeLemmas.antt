@@ -7,6 +7,7 @@ use Rattle.program_drills.specs.answer_lines.Refusals.{no_memory}
 use Rattle.program_exchanges.specs.http_streams.declared.devices.Source.{Ghosts as Source}
 use Rattle.program_exchanges.specs.http_streams.declared.devices.Sink.{Ghosts as Sink}
 use Rattle.program_exchanges.specs.declared.asking.ExchangeCall.TheVariants as call
+use Rattle.program_exchanges.specs.http_streams.declared.fetch.FetchFault.TheVariants as fetch
 use Rattle.program_exchanges.specs.declared.fault.NetworkFault.{NetworkFault}
 use Rattle.program_exchanges.specs.declared.fault.NetworkFault.TheVariants as network
 use Rattle.program_exchanges.specs.declared.fault.PullFault.{PullFault}
@@ -58,8 +59,8 @@ module _ {R W : Type 0} (reader : Source R) (writer : Sink W) (at : RoundCall) (
       → IsRequestBegun reader.left writer.holds request link.reader left.reader link.writer left.writer
       → ((f : NetworkFault) → fault ≡ Network f → ReportsNoHost at.address.now f)
       → ((f : NetworkFault) → fault ≡ Network f → ReportsTooLarge at.address.now (call_size at.call body) f)
-      → (fault ≢ Network network.Read → NoReadFailed reader writer link left)
-      → (fault ≢ Network network.Write → NoWriteFailed reader writer link left)
+      → (fault ≢ Network (network.Fetch fetch.Read) → NoReadFailed reader writer link left)
+      → (fault ≢ Network (network.Fetch fetch.Write) → NoWriteFailed reader writer link left)
       → IsNotCalled reader writer at body link fault left
   not_called (Network f) refused unanswered begun host size reads writes =
       (unanswered f refl, host f refl, size f refl, λ other. reads (λ e. other cc), λ other. writes (λ e. other cc))
@@ -77,8 +78,8 @@ module _ {R W : Type 0} (reader : Source R) (writer : Sink W) (at : RoundCall) (
         → ((f : NetworkFault) → came ≡ Err (Network f) → ReportsNoHost at.address.now f)
         → IfOk came (λ v. call_size at.call body ≤ MAX_BODY)
         → ((f : NetworkFault) → came ≡ Err (Network f) → ReportsTooLarge at.address.now (call_size at.call body) f)
-        → (came ≢ Err (Network network.Read) → NoReadFailed reader writer link left)
-        → (came ≢ Err (Network network.Write) → NoWriteFailed reader writer link left)
+        → (came ≢ Err (Network (network.Fetch fetch.Read)) → NoReadFailed reader writer link left)
+        → (came ≢ Err (Network (network.Fetch fetch.Write)) → NoWriteFailed reader writer link left)
         → does old (closed left) next
         → IfOk result (λ v. came ≡ Ok v)
         → OnOk result (new ≡ next)

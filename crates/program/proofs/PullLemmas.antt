@@ -8,6 +8,7 @@ use Rattle.program_drills.specs.answer_lines.Refusals.{no_memory}
 use Rattle.program_exchanges.specs.http_streams.declared.devices.Source.{Ghosts as Source}
 use Rattle.program_exchanges.specs.http_streams.declared.devices.Sink.{Ghosts as Sink}
 use Rattle.program_exchanges.specs.Messages.{IsMessageRefused}
+use Rattle.program_exchanges.specs.http_streams.declared.fetch.FetchFault.TheVariants as fetch
 use Rattle.program_exchanges.specs.declared.fault.NetworkFault.{NetworkFault}
 use Rattle.program_exchanges.specs.declared.fault.NetworkFault.TheVariants as network
 use Rattle.program_exchanges.specs.declared.fault.PullFault.{PullFault}
@@ -54,8 +55,8 @@ module _ {R W : Type 0} (reader : Source R) (writer : Sink W) (schema : List ℕ
       → OnErr came (((left.reader ≡ link.reader) × (left.writer ≡ link.writer)) ⊎ ((s : StatedSchema) × (m : Store)
       × IsReady schema state s m
       × IsRequestBegun reader.left writer.holds (request_for address s m) link.reader left.reader link.writer left.writer))
-      → (came ≢ Err (Network network.Read) → NoReadFailed reader writer link left)
-      → (came ≢ Err (Network network.Write) → NoWriteFailed reader writer link left)
+      → (came ≢ Err (Network (network.Fetch fetch.Read)) → NoReadFailed reader writer link left)
+      → (came ≢ Err (Network (network.Fetch fetch.Write)) → NoWriteFailed reader writer link left)
       → IsPull reader writer schema state address link came left
   pull_as (Ok p) pulled refused network err reads writes = (
     pulled.0,

@@ -12,7 +12,7 @@ one_or zero = inr (λ e. absurd cc)
 one_or (suc zero) = inl refl
 one_or (suc (suc n)) = inr (λ e. absurd cc)
 
-none_or : (o : Option ℕ) → (o ≡ None) ⊎ (o ≡ None → ⊥)
+none_or : {A : Type 0} (o : Option A) → (o ≡ None) ⊎ (o ≡ None → ⊥)
 none_or None = inl refl
 none_or (Some n) = inr (λ e. absurd cc)
 

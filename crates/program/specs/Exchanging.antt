@@ -16,6 +16,7 @@ use Rattle.program_exchanges.specs.http_streams.declared.devices.Source.{Ghosts 
 use Rattle.program_exchanges.specs.http_streams.declared.devices.Sink.{Ghosts as Sink}
 use Rattle.program_exchanges.specs.declared.asking.ExchangeCall.{ExchangeCall}
 use Rattle.program_exchanges.specs.declared.asking.ExchangeCall.TheVariants as call
+use Rattle.program_exchanges.specs.http_streams.declared.fetch.FetchFault.TheVariants as fetch
 use Rattle.program_exchanges.specs.declared.fault.NetworkFault.TheVariants as network
 use Rattle.program_exchanges.specs.declared.fault.PullFault.{PullFault}
 use Rattle.program_exchanges.specs.declared.fault.PullFault.TheVariants.{Network, Refused}
@@ -49,10 +50,11 @@ status_text status = if nat_eq status 413 then codes "status 413, larger than a 
 abbrev pub fault_text : CallFault → List ℕ
 fault_text cause.NotReached = codes "no connection"
 fault_text cause.NoCount = codes "no count of updates"
-fault_text (cause.Network network.Read) = codes "reading failed"
-fault_text (cause.Network network.Write) = codes "writing failed"
-fault_text (cause.Network network.BadReply) = codes "no HTTP reply"
-fault_text (cause.Network network.Ended) = codes "closed before the reply ended"
+fault_text (cause.Network (network.Fetch fetch.Read)) = codes "reading failed"
+fault_text (cause.Network (network.Fetch fetch.Write)) = codes "writing failed"
+fault_text (cause.Network (network.Fetch fetch.BadReply)) = codes "no HTTP reply"
+fault_text (cause.Network (network.Fetch fetch.Ended)) = codes "closed before the reply ended"
+fault_text (cause.Network (network.Fetch fetch.NoMemory)) = codes "out of memory"
 fault_text (cause.Network network.NoHost) = codes "no host"
 fault_text (cause.Network network.TooLarge) = codes "larger than a site takes: merge both state files"
 fault_text (cause.Network (network.OtherStatus status)) = status_text status
@@ -105,8 +107,8 @@ module _ {R W : Type 0} (reader : Source R) (writer : Sink W) where
       IsUnanswered reader.left reader.reads reader.failed reader.fails writer.holds writer.failed writer.fails
       (call_request c.call c.address.now body) link.reader left.reader link.writer left.writer fault
       × ReportsNoHost c.address.now fault × ReportsTooLarge c.address.now (call_size c.call body) fault
-      × (fault ≢ network.Read → NoReadFailed reader writer link left)
-      × (fault ≢ network.Write → NoWriteFailed reader writer link left)
+      × (fault ≢ network.Fetch fetch.Read → NoReadFailed reader writer link left)
+      × (fault ≢ network.Fetch fetch.Write → NoWriteFailed reader writer link left)
   IsNotCalled c body link (Refused refusal) left = (refusal ≡ no_memory)
       × IsRequestBegun reader.left writer.holds (call_request c.call c.address.now body) link.reader left.reader
       link.writer left.writer

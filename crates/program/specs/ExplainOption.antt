@@ -51,10 +51,10 @@ abbrev pub IsThatOr : (List ℕ → Type 0) → List ℕ → List ℕ → Type 0
 IsThatOr Other [] text = Other text
 IsThatOr Other (byte ∷ bytes) text = text ≡ byte ∷ bytes
 
--- `rejected_in message code` is the file `message` of a message that was given, unless the error with this code is out
--- of memory (1), which is no error of the message.
-abbrev pub rejected_in : Option (List ℕ) → ℕ → Option (List ℕ)
-rejected_in message code = if code == 1 then None else message
+-- `rejected_file message code` is the file `message` of a message that was given, unless the error with this code is
+-- out of memory (1), which is no error of the message.
+abbrev pub rejected_file : Option (List ℕ) → ℕ → Option (List ℕ)
+rejected_file message code = if code == 1 then None else message
 
 -- `IsTextIn file refusal text` holds if `text` explains `refusal` as the error of the message in `file` or, without a
 -- file, by the text on its code.
@@ -65,7 +65,7 @@ IsTextIn (Some file) refusal text = IsMessageExplained file refusal text
 -- `IsErrorText message refusal text` holds if `text` explains `refusal`, where the file `message`, if there is one, has
 -- the message that may be rejected.
 abbrev pub IsErrorText : Option (List ℕ) → Refusal → List ℕ → Type 0
-IsErrorText message refusal text = IsTextIn (rejected_in message refusal.code) refusal text
+IsErrorText message refusal text = IsTextIn (rejected_file message refusal.code) refusal text
 
 -- `IsRefusalText files message refusal text` holds if `text` explains what is rejected in `files` or, if nothing is,
 -- `refusal` (`IsErrorText message refusal`).

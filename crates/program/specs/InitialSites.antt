@@ -13,7 +13,8 @@ use Rattle.program_exchanges.specs.sync_format.declared.update.Update.{Update as
 use Rattle.program_exchanges.specs.sync_format.Updates.{plain_updates}
 use Rattle.program_drills.specs.answer_lines.declared.refusal.Refusal.{Refusal}
 use Rattle.program_drills.specs.schema_decisions.Checks.{IsSchemaRefused}
-use Rattle.site_loading.specs.site.Faults.{code_of, place_of, within_of}
+use Rattle.site_loading.specs.site.Faults.{code_of, within_of}
+use Rattle.program_drills.specs.http_replies.Replies.{fault_place}
 use Rattle.site_loading.specs.site.SiteViews.{SiteView, schema_of, store_in}
 use Rattle.site_loading.specs.site.declared.fault.SiteFault.{SiteFault}
 use Rattle.site_loading.specs.site.declared.fault.SiteFault.TheVariants.{Message}
@@ -23,7 +24,7 @@ use Rattle.program.specs.ExplainOption.{schema_files, IsRefusalText, IsErrorThen
 
 -- `site_refusal f` is the error `f` of a site as it is reported.
 abbrev pub site_refusal : SiteFault → Refusal
-site_refusal f = record { code = code_of f; place = place_of f; within = within_of f }
+site_refusal f = record { code = code_of f; place = fault_place f; within = within_of f }
 
 -- `BeginsWith s o m` holds if `m` is the store of the updates of `o`, a message of the schema `s`, or the empty store
 -- if `o` is absent.

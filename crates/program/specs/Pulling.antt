@@ -10,6 +10,7 @@ use Rattle.program_drills.specs.answer_lines.declared.refusal.Refusal.{Refusal}
 use Rattle.program_drills.specs.answer_lines.Refusals.{no_memory}
 use Rattle.program_exchanges.specs.http_streams.declared.devices.Source.{Ghosts as Source}
 use Rattle.program_exchanges.specs.http_streams.declared.devices.Sink.{Ghosts as Sink}
+use Rattle.program_exchanges.specs.http_streams.declared.fetch.FetchFault.TheVariants as fetch
 use Rattle.program_exchanges.specs.declared.fault.NetworkFault.TheVariants as network
 use Rattle.program_exchanges.specs.declared.fault.PullFault.{PullFault}
 use Rattle.program_exchanges.specs.declared.fault.PullFault.TheVariants.{Network, Refused}
@@ -85,8 +86,8 @@ module _ {R W : Type 0} (reader : Source R) (writer : Sink W) where
       × IsReady schema state s m
       × IsUnanswered reader.left reader.reads reader.failed reader.fails writer.holds writer.failed writer.fails
       (request_for address s m) link.reader left.reader link.writer left.writer fault
-      × (fault ≢ network.Read → NoReadFailed link left)
-      × (fault ≢ network.Write → NoWriteFailed link left)
+      × (fault ≢ network.Fetch fetch.Read → NoReadFailed link left)
+      × (fault ≢ network.Fetch fetch.Write → NoWriteFailed link left)
 
   -- `IsPulledOver options schema state link` is the course of a pull with the texts `schema` and `state` over the
   -- connection `link` to the address in `options`. The connection is then closed, and the outcome reported.

@@ -17,9 +17,9 @@ use crate::host::Host;
 use crate::reading::read_file;
 use crate::report::{ANSWERED, FAILED, report_failure, report_memory, report_refusal};
 use plain::NoMemory;
-use program_exchanges::{ExchangeCall, NetworkFault, PullFault, ask, is_taken_line};
+use program_exchanges::{ExchangeCall, FetchFault, NetworkFault, PullFault, ask, is_taken_line};
 use program_lines::ExchangeOptions;
-use site_loading::schema_in;
+use site_loading::parse_schema;
 use std::alloc::Global;
 use std::process::ExitCode;
 
@@ -87,10 +87,23 @@ fn fault_text(alloc: Global, fault: CallFault) -> Result<String, NoMemory>
     match fault {
         CallFault::NotReached => owned(alloc, "no connection"),
         CallFault::NoCount => owned(alloc, "no count of updates"),
-        CallFault::Network(NetworkFault::Read) => owned(alloc, "reading failed"),
-        CallFault::Network(NetworkFault::Write) => owned(alloc, "writing failed"),
-        CallFault::Network(NetworkFault::BadReply) => owned(alloc, "no HTTP reply"),
-        CallFault::Network(NetworkFault::Ended) => owned(alloc, "closed before the reply ended"),
+        CallFault::Network(NetworkFault::Fetch(FetchFault::Read)) => owned(alloc, "reading failed"),
+        CallFault::Network(NetworkFault::Fetch(FetchFault::Write)) => owned(
+            alloc,
+            "writing failed",
+        ),
+        CallFault::Network(NetworkFault::Fetch(FetchFault::BadReply)) => owned(
+            alloc,
+            "no HTTP reply",
+        ),
+        CallFault::Network(NetworkFault::Fetch(FetchFault::Ended)) => owned(
+            alloc,
+            "closed before the reply ended",
+        ),
+        CallFault::Network(NetworkFault::Fetch(FetchFault::NoMemory)) => owned(
+            alloc,
+            "out of memory",
+        ),
         CallFault::Network(NetworkFault::NoHost) => owned(alloc, "no host"),
         CallFault::Network(NetworkFault::TooLarge) => {
             owned(alloc, "larger than a site takes: merge both state files")
@@ -182,7 +195,7 @@ fn call_over<H: Host>(
 
 /// Makes a call over a new connection, and returns the body of the reply. If there is no reply of status 200, reports
 /// why, and returns the status of the run as the error.
-fn call_at<H: Host>(
+fn make_call<H: Host>(
     alloc: Global,
     host: &mut H,
     round_call: &RoundCall<'_>,
@@ -244,7 +257,7 @@ fn exchange<H: Host>(
         call: ExchangeCall::Summary,
         address: to,
     };
-    let summary = match call_at(alloc, host, &summary_call, b"") {
+    let summary = match make_call(alloc, host, &summary_call, b"") {
         Ok(reply) => reply,
         Err(end) => return Err(end),
     };
@@ -253,7 +266,7 @@ fn exchange<H: Host>(
         call: ExchangeCall::Delta,
         address: from,
     };
-    let delta = match call_at(alloc, host, &delta_call, &summary) {
+    let delta = match make_call(alloc, host, &delta_call, &summary) {
         Ok(reply) => reply,
         Err(end) => return Err(end),
     };
@@ -262,7 +275,7 @@ fn exchange<H: Host>(
         call: ExchangeCall::Merge,
         address: to,
     };
-    let line = match call_at(alloc, host, &merge_call, &delta) {
+    let line = match make_call(alloc, host, &merge_call, &delta) {
         Ok(reply) => reply,
         Err(end) => return Err(end),
     };
@@ -293,7 +306,7 @@ fn exchange_under<H: Host>(
     ensures { Runs H.does host.old host.new (λ events.
         IsExchanged H.Reader.Source H.Writer.Sink options.now schema.now events (exit_status result)) }
 {
-    match schema_in(alloc, schema) {
+    match parse_schema(alloc, schema) {
         Ok(schema) => {
             drop(schema);
             exchange_both(alloc, host, options.between, options.and)

@@ -96,7 +96,7 @@ struct FileContents<'t> {
 }
 
 /// Returns the files that the options name, with their contents.
-fn given_of<'n, 't>(options: &ExplainOptions<'n>, held: FileContents<'t>) -> Given<'n, 't>
+fn given_files<'n, 't>(options: &ExplainOptions<'n>, held: FileContents<'t>) -> Given<'n, 't>
     ensures { files_of result ≡ files_named options.now (option_map (λ s. s.now) held.entry.schema)
         held.entry.policies.now
         (option_map (λ s. s.now) held.entry.entities) (option_map (λ s. s.now) held.entry.request) }
@@ -149,7 +149,7 @@ fn explain_files<H: Host>(alloc: Global, host: &mut H, options: &ExplainOptions<
         entities: lent(&entities),
         request: lent(&request),
     };
-    report_explanation(alloc, host, &given_of(options, held))
+    report_explanation(alloc, host, &given_files(options, held))
 }
 
 /// Explains a code, if the argument is a number, and otherwise what is rejected in files.

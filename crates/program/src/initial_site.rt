@@ -6,9 +6,9 @@ ghost use Rattle.program.specs.InitialSites.{IsInitialSite, IsInitialSiteRefused
 ghost use Rattle.program.specs.inner.InitialUpdates.{TakesState};
 
 use plain::{NoMemory, Shared};
-use program_drills::{Refusal, Site, SiteFault, Taken};
+use program_drills::{Refusal, Site, SiteFault, Taken, fault_place};
 use program_lines::SiteName;
-use site_loading::schema_in;
+use site_loading::parse_schema;
 use std::alloc::Global;
 
 /// Returns an error of a site as the program reports it.
@@ -17,7 +17,7 @@ fn site_refusal(fault: SiteFault) -> Refusal
 {
     Refusal {
         code: fault.code(),
-        place: fault.place(),
+        place: fault_place(fault),
         within: fault.within(),
     }
 }
@@ -47,7 +47,7 @@ pub(crate) fn initial_site(
     ensures refused { IfErr result (λ r. (r ≡ no_memory → ⊥)
         → IsInitialSiteRefused schema.now (option_map (λ s. s.now) state.entry) r) }
 {
-    let schema = match schema_in(alloc, schema) {
+    let schema = match parse_schema(alloc, schema) {
         Ok(schema) => schema,
         Err(refusal) => return Err(refusal),
     };

@@ -4,7 +4,7 @@ ghost use Rattle.std.specs.Process.{exit_status};
 ghost use Rattle.explanations.specs.FileExplanations.{IsExplained};
 ghost use Rattle.explanations.specs.Files.{file_of, files_of};
 ghost use Rattle.program.specs.Events.{Runs};
-ghost use Rattle.program.specs.ExplainOption.{IsCodeText, rejected_in, IsErrorText, IsRefusalText, IsTextWritten};
+ghost use Rattle.program.specs.ExplainOption.{IsCodeText, rejected_file, IsErrorText, IsRefusalText, IsTextWritten};
 ghost use Rattle.program.specs.ExplainOption.{IsErrorReported, Explains};
 ghost use Rattle.program.specs.ExplainOption.{IsExplanationWritten, policies_of, schema_files};
 ghost use Rattle.program.specs.inner.WrittenTexts.{IsMadeWritten};
@@ -82,8 +82,8 @@ fn text_on(alloc: Global, code: u8) -> Result<String, NoMemory>
 }
 
 /// Returns the file of the message that may be rejected, unless the error with this code is out of memory.
-fn rejected_in(message: Option<&str>, code: u8) -> Option<&str>
-    ensures { option_map (λ m. m.now) result ≡ rejected_in (option_map (λ m. m.now) message.entry) code }
+fn rejected_file(message: Option<&str>, code: u8) -> Option<&str>
+    ensures { option_map (λ m. m.now) result ≡ rejected_file (option_map (λ m. m.now) message.entry) code }
 {
     if code == 1 { None } else { message }
 }
@@ -94,7 +94,7 @@ fn error_text(alloc: Global, message: Option<&str>, refusal: Refusal) -> Result<
     ensures { IfOk result
         (λ text. IsErrorText (option_map (λ m. m.now) message.entry) refusal (string_bytes text)) }
 {
-    match rejected_in(message, refusal.code) {
+    match rejected_file(message, refusal.code) {
         Some(file) => explain_message(alloc, file, refusal),
         None => text_on(alloc, refusal.code),
     }

@@ -98,15 +98,15 @@ script_line_by None asked = None
 script_line_by (Some site) None = None
 script_line_by (Some site) (Some asked) = Some (record { site = site; script_operation = asked })
 
--- `script_line_in n made d` is the event that the JSON `d` describes for one of `n` sites, if it describes one; `made`
--- counts the messages and summaries that earlier lines make.
-unfoldable pub script_line_in : ℕ → MadeCounts → Data → Option ScriptLine
-script_line_in n made d = script_line_by (number_in (codes "site") 1 (n + 1) d)
+-- `described_script_line n made d` is the event that the JSON `d` describes for one of `n` sites, if it describes one;
+-- `made` counts the messages and summaries that earlier lines make.
+unfoldable pub described_script_line : ℕ → MadeCounts → Data → Option ScriptLine
+described_script_line n made d = script_line_by (number_in (codes "site") 1 (n + 1) d)
     (option_and_then (λ word. operation_named made word d) (text_at (codes "do") d))
 
 -- `script_line_of n made line` is the event that the bytes `line` describe, if they are JSON of an event.
 abbrev pub script_line_of : ℕ → MadeCounts → List ℕ → Option ScriptLine
-script_line_of n made line = option_and_then (script_line_in n made) (json_of line)
+script_line_of n made line = option_and_then (described_script_line n made) (json_of line)
 
 -- ---- as events
 

@@ -10,7 +10,7 @@ use crate::reporting::world_lines;
 use crate::whole::read_script;
 use http_service::{Event, simulate};
 use plain::{NoMemory, Shared};
-use schema_decisions::{Refusal, Schema, schema_in};
+use schema_decisions::{Refusal, Schema, parse_schema};
 use std::alloc::Global;
 
 /// Executes events at `count` sites, and returns the lines of the events and of the sites.
@@ -71,7 +71,7 @@ pub fn drill_text(
     ensures drilled { IfOk result (λ text. IsDrilled count schema.now script.now text.items) }
     ensures refused { IfErr result (λ r. (r ≡ no_memory → ⊥) → IsDrillRefused count schema.now script.now r) }
 {
-    let schema = schema_in(alloc, schema)?;
+    let schema = parse_schema(alloc, schema)?;
     let schema = Shared::new(alloc, schema)?;
     drill_under(alloc, &schema, count, script)
 }

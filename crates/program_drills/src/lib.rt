@@ -11,5 +11,7 @@ mod whole;
 pub use drilling::drill_text;
 
 // of lower layers
-pub use http_service::{Refusal, Site, SiteFault, Taken, error_line, serve, serve_logged};
+pub use http_service::{
+    Refusal, Site, SiteFault, Taken, error_line, fault_place, serve, serve_logged,
+};
 pub use schema_decisions::{check_texts, decide_under};

@@ -7,7 +7,7 @@ ghost use Rattle.serde_json.specs.View.{view};
 ghost use Rattle.json_words.specs.Json.{json_of, text_at};
 ghost use Rattle.program_drills.specs.ScriptLines.{operation_named, authorize, delivered, delta_offered};
 ghost use Rattle.program_drills.specs.ScriptLines.{delete_entity, number_in};
-ghost use Rattle.program_drills.specs.ScriptLines.{policy_deleted, policy_put, put_entity, script_line_in};
+ghost use Rattle.program_drills.specs.ScriptLines.{policy_deleted, policy_put, put_entity, described_script_line};
 ghost use Rattle.program_drills.specs.ScriptLines.{script_line_of, within};
 ghost use Rattle.program_drills.specs.inner.Reading.{IsReadAs, IsLineRead, AreBytesOf};
 
@@ -185,15 +185,15 @@ fn operation_named(
 }
 
 /// Returns the event that a JSON value describes for one of `count` sites, if it describes one.
-#[tactic(auto, unfolding(crate::specs::ScriptLines::script_line_in))]
-fn script_line_in(
+#[tactic(auto, unfolding(crate::specs::ScriptLines::described_script_line))]
+fn described_script_line(
     alloc: Global,
     count: u16,
     made: MadeCounts,
     value: &Value,
 ) -> Result<Option<Event>, NoMemory>
     requires { depth (view value.now) ≤ max_depth }
-    ensures { IfOk result (IsLineRead (script_line_in count made (view value.now))) }
+    ensures { IfOk result (IsLineRead (described_script_line count made (view value.now))) }
 {
     let Some(site) = number_in(value, "site", 1, count as usize + 1) else {
         return Ok(None);
@@ -222,7 +222,7 @@ pub(crate) fn script_line_of(
     ensures { IfOk result (IsLineRead (script_line_of count made line.now)) }
 {
     match read_json(alloc, line)? {
-        Some(value) => script_line_in(alloc, count, made, &value),
+        Some(value) => described_script_line(alloc, count, made, &value),
         None => Ok(None),
     }
 }

@@ -7,16 +7,16 @@ use crate::made::{MadeCounts, after_operation};
 use crate::one_line::script_line_of;
 use crate::split::first_line;
 use http_service::Event;
-use schema_decisions::Refusal;
+use schema_decisions::{Place, Refusal};
 use std::alloc::Global;
 
 /// Returns the error (30, bad shape) of the line at an index.
-fn unread_line(place: usize) -> Refusal
-    ensures { result ≡ bad_shape (Some place) }
+fn unread_line(index: usize) -> Refusal
+    ensures { result ≡ bad_shape (Some index) }
 {
     Refusal {
         code: 30,
-        place: Some(place),
+        place: Some(Place::Index(index)),
         within: None,
     }
 }

@@ -160,19 +160,19 @@ module _ {R W : Type 0} (left : R → Option (List ℕ)) (reads : R → ℕ → 
 
   pub unanswered : (fault : FetchFault) → Reports fault → (f : NetworkFault) → pull_fault fault ≡ Network f → Unanswered f
   unanswered fetch.Read t f e =
-      let same : network.Read ≡ f = cc in
+      let same : network.Fetch fetch.Read ≡ f = cc in
       let h = t.read refl in
       subst Unanswered same (h.0, sent h.0 h.1 h.2, h.3, h.4)
   unanswered fetch.Write t f e =
-      let same : network.Write ≡ f = cc in
+      let same : network.Fetch fetch.Write ≡ f = cc in
       let h = t.write refl in
       subst Unanswered same (begun_part t.part, h.0, h.1)
   unanswered fetch.BadReply t f e =
-      let same : network.BadReply ≡ f = cc in
+      let same : network.Fetch fetch.BadReply ≡ f = cc in
       let h = t.bad refl in
       subst Unanswered same (h.0, h.1, sent h.0 h.2 h.3, h.4, h.5, h.6)
   unanswered fetch.Ended t f e =
-      let same : network.Ended ≡ f = cc in
+      let same : network.Fetch fetch.Ended ≡ f = cc in
       let h = t.ended refl in
       subst Unanswered same (h.0, sent h.0 h.1 h.2, h.3, h.4, h.5)
   unanswered fetch.NoMemory t f e = absurd (cc)

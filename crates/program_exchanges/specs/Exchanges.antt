@@ -7,6 +7,7 @@ use Rattle.http_streams.specs.declared.TheConstants.{MAX_BODY}
 use Rattle.http_streams.specs.Reply.{IsBadReply, IsUnfinishedReply, ReadsReply}
 use Rattle.http_streams.specs.Parts.{is_host}
 use Rattle.http_streams.specs.Reads.{EndsByOneRead}
+use Rattle.http_streams.specs.declared.fetch.FetchFault.TheVariants as fetch
 use Rattle.program_exchanges.specs.declared.fault.NetworkFault.{NetworkFault}
 use Rattle.program_exchanges.specs.declared.fault.NetworkFault.TheVariants as network
 
@@ -64,18 +65,22 @@ module _ {R W : Type 0} (left : R → Option (List ℕ)) (reads : R → ℕ → 
   -- - BadReply: the bytes read cannot begin a reply with a valid length within the limits; those before the last read
   --   were less than a reply.
   -- - Ended: the last read reported the end of the input, before the reply was complete.
+  -- - NoMemory: never.
   -- - OtherStatus: the reply has this status, which is not 200.
   abbrev pub IsUnanswered : List ℕ → R → R → W → W → NetworkFault → Type 0
   IsUnanswered request r r2 w w2 network.NoHost = (r2 ≡ r) × (w2 ≡ w)
   IsUnanswered request r r2 w w2 network.TooLarge = (r2 ≡ r) × (w2 ≡ w)
-  IsUnanswered request r r2 w w2 network.Read = (bytes : List ℕ) × IsSent left holds request r r2 w w2 bytes
+  IsUnanswered request r r2 w w2 (network.Fetch fetch.Read) = (bytes : List ℕ)
+      × IsSent left holds request r r2 w w2 bytes
       × IsUnfinishedReply bytes × FailsAtLast read_failed read_fails r r2
-  IsUnanswered request r r2 w w2 network.Write = IsRequestBegun left holds request r r2 w w2 × (r2 ≡ r)
+  IsUnanswered request r r2 w w2 (network.Fetch fetch.Write) = IsRequestBegun left holds request r r2 w w2 × (r2 ≡ r)
       × FailsAtLast write_failed write_fails w w2
-  IsUnanswered request r r2 w w2 network.BadReply = (bytes : List ℕ) × (front : List ℕ)
+  IsUnanswered request r r2 w w2 (network.Fetch fetch.BadReply) = (bytes : List ℕ) × (front : List ℕ)
       × IsSent left holds request r r2 w w2 bytes × IsBadReply bytes × IsUnfinishedReply front
       × EndsByOneRead left reads r r2 bytes front
-  IsUnanswered request r r2 w w2 network.Ended = (bytes : List ℕ) × IsSent left holds request r r2 w w2 bytes
+  IsUnanswered request r r2 w w2 (network.Fetch fetch.Ended) = (bytes : List ℕ)
+      × IsSent left holds request r r2 w w2 bytes
       × IsUnfinishedReply bytes × IsAtEnd (left r2) × EndsByOneRead left reads r r2 bytes bytes
+  IsUnanswered request r r2 w w2 (network.Fetch fetch.NoMemory) = ⊥
   IsUnanswered request r r2 w w2 (network.OtherStatus status) = (status ≢ 200)
       × ((body : List ℕ) × IsAnswered left reads holds request r r2 w w2 status body)

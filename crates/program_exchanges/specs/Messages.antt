@@ -2,7 +2,7 @@
 -- Source: docs/formats.md, "Messages between sites".
 -- Rules of this product: a message (a state or a delta) is rejected whole, with its first error, or all its updates are
 -- applied in order, including those that lose; an error has a code, a place and the code of an inner error.
-use Rattle.std.specs.Prelude.{◌≡◌, ℕ, List, ◌++◌, length}
+use Rattle.std.specs.Prelude.{◌≡◌, ℕ, List, ◌++◌, length, option_map}
 use Rattle.schema_decisions.specs.policy_grammar.declared.policy.Policy.{Policy}
 use Rattle.sync_messages.specs.schema.Schemas.{StatedSchema}
 use Rattle.schema_decisions.specs.entity_data.declared.entity.Entity.{Entity}
@@ -13,13 +13,14 @@ use Rattle.sync_messages.specs.sync_format.declared.update.Update.{Update as Sen
 use Rattle.sync_messages.specs.sync_format.Updates.{AreInRange, AreValid, plain_updates}
 use Rattle.sync_messages.specs.Messages.{IsMessageOf, IsMessageFaultOf}
 use Rattle.sync_messages.specs.Texts.{ReadsPolicy, ReadsEntity}
+use Rattle.schema_decisions.specs.answer_lines.declared.place.Place.TheVariants.{Index}
 use Rattle.schema_decisions.specs.answer_lines.declared.refusal.Refusal.{Refusal}
 
 -- ---- messages
 
 -- `message_refusal f` is the report of the error `f` of a message: its code, its place and the code of the inner error.
 abbrev pub message_refusal : MessageFault → Refusal
-message_refusal f = record { code = code_of f; place = place_of f; within = within_of f }
+message_refusal f = record { code = code_of f; place = option_map Index (place_of f); within = within_of f }
 
 -- `IsMessageRefused s bytes refusal` holds if `refusal` is the first error of `bytes` as a message of the schema `s`.
 pub record IsMessageRefused (s : StatedSchema) (bytes : List ℕ) (refusal : Refusal) : Type 0 where

@@ -22,11 +22,8 @@ fn pull_fault(fault: FetchFault) -> PullFault
     ensures { result ≡ pull_fault fault }
 {
     match fault {
-        FetchFault::Read => PullFault::Network(NetworkFault::Read),
-        FetchFault::Write => PullFault::Network(NetworkFault::Write),
-        FetchFault::BadReply => PullFault::Network(NetworkFault::BadReply),
-        FetchFault::Ended => PullFault::Network(NetworkFault::Ended),
         FetchFault::NoMemory => PullFault::from(NoMemory),
+        _ => PullFault::Network(NetworkFault::Fetch(fault)),
     }
 }
 
@@ -117,8 +114,10 @@ pub fn ask<R: Source, W: Sink>(
     ensures fits { IfOk result (λ _. call_size call body.now ≤ MAX_BODY) }
     ensures too_large { (f : NetworkFault) → result ≡ Err (PullFault.Network f)
         → ReportsTooLarge host.now (call_size call body.now) f }
-    ensures reads { result ≢ Err (PullFault.Network NetworkFault.Read) → R.failed reader.new ≡ R.failed reader.old }
-    ensures writes { result ≢ Err (PullFault.Network NetworkFault.Write) → W.failed writer.new ≡ W.failed writer.old }
+    ensures reads { result ≢ Err (PullFault.Network (NetworkFault.Fetch FetchFault.Read))
+        → R.failed reader.new ≡ R.failed reader.old }
+    ensures writes { result ≢ Err (PullFault.Network (NetworkFault.Fetch FetchFault.Write))
+        → W.failed writer.new ≡ W.failed writer.old }
 {
     if !is_host(host) {
         return Err(PullFault::Network(NetworkFault::NoHost));

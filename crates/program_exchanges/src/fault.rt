@@ -3,6 +3,7 @@ ghost use Rattle.std.specs.Prelude.{◌≡◌};
 ghost use Rattle.schema_decisions.specs.answer_lines.Refusals.{no_memory};
 ghost use Rattle.program_exchanges.specs.declared.fault.PullFault.TheVariants as pull;
 
+use http_streams::fetch::FetchFault;
 use plain::NoMemory;
 use schema_decisions::Refusal;
 use thiserror::Error;
@@ -10,18 +11,9 @@ use thiserror::Error;
 /// The reason why there is no reply of status 200.
 #[derive(Clone, Copy, PartialEq, Eq, Debug, Error)]
 pub enum NetworkFault {
-    /// The reader failed (70).
-    #[error("network 70: reading failed")]
-    Read,
-    /// The writer failed (71).
-    #[error("network 71: writing failed")]
-    Write,
-    /// The bytes read cannot begin a reply with a valid length, within the limits (72).
-    #[error("network 72: no HTTP reply of one length within the limits")]
-    BadReply,
-    /// The input ended before the reply did (73).
-    #[error("network 73: connection closed before the end of the reply")]
-    Ended,
+    /// There is no reply (70 to 73). Never [`FetchFault::NoMemory`], which is a [`PullFault::Refused`].
+    #[error(transparent)]
+    Fetch(FetchFault),
     /// The reply has this status, which is not 200 (74). Its body is ignored.
     #[error("network 74: reply with status {0}")]
     OtherStatus(u16),

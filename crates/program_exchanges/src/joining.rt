@@ -9,7 +9,7 @@ ghost use Rattle.program_exchanges.specs.Messages.{IsMessageRefused, IsSendable,
 ghost use Rattle.program_exchanges.specs.Messages.{message_refusal};
 
 use plain::NoMemory;
-use schema_decisions::{Policy, Refusal};
+use schema_decisions::{Place, Policy, Refusal};
 use stamped_store::StampedStore;
 use stamped_store::laws::updates_have_one_store;
 use std::alloc::Global;
@@ -24,7 +24,7 @@ pub fn message_refusal(fault: MessageFault) -> Refusal
 {
     Refusal {
         code: fault.code(),
-        place: fault.place(),
+        place: fault.place().map(Place::Index),
         within: fault.within(),
     }
 }

@@ -26,5 +26,6 @@ pub use merging::merge_texts;
 pub use pulling::{Pulled, pull_over};
 
 // of lower layers
+pub use http_streams::fetch::FetchFault;
 pub use http_streams::serve::LoggedFault;
 pub use http_streams::{Counted, Kept, Plan, Sink, Source};

@@ -8,7 +8,7 @@ ghost use Rattle.program_exchanges.specs.inner.Merging.{IsJoinWith, IsMergedUnde
 
 use crate::joining::{Joined, join_message, state_of};
 use plain::NoMemory;
-use schema_decisions::{Policy, Refusal, schema_in};
+use schema_decisions::{Policy, Refusal, parse_schema};
 use stamped_store::StampedStore;
 use stamped_store::laws::{stores_are_joined, updates_have_one_store};
 use std::alloc::Global;
@@ -64,6 +64,6 @@ pub fn merge_texts(alloc: Global, schema: &[u8], f: &[u8], g: &[u8]) -> Result<V
         (λ b. (m : IsMerged schema.now f.now g.now b.items) × IsMergedBack m) }
     ensures refused { IfErr result (λ r. (r ≡ no_memory → ⊥) → AreRefused schema.now f.now g.now r) }
 {
-    let schema = schema_in(alloc, schema)?;
+    let schema = parse_schema(alloc, schema)?;
     merge_under(alloc, &schema, f, g)
 }

@@ -8,6 +8,7 @@ ghost use Rattle.stamped_store.specs.Store.{Store, abstract_store};
 ghost use Rattle.schema_decisions.specs.answer_lines.declared.refusal.Refusal.{Refusal};
 ghost use Rattle.schema_decisions.specs.answer_lines.Refusals.{no_memory};
 ghost use Rattle.program_exchanges.specs.Messages.{IsMessageRefused, IsSendable};
+ghost use Rattle.http_streams.specs.declared.fetch.FetchFault.TheVariants as FetchFault;
 ghost use Rattle.program_exchanges.specs.declared.fault.NetworkFault.{NetworkFault};
 ghost use Rattle.program_exchanges.specs.Requests.{Holds, IsReady, request_for, summary_size};
 ghost use Rattle.program_exchanges.specs.Exchanges.{IsAnswered, IsUnanswered, IsRequestBegun, ReportsNoHost};
@@ -19,7 +20,7 @@ use crate::fault::PullFault;
 use crate::joining::{Joined, join_message, state_of};
 use http_streams::{Sink, Source};
 use plain::NoMemory;
-use schema_decisions::{Policy, Refusal, schema_in};
+use schema_decisions::{Policy, Refusal, parse_schema};
 use stamped_store::StampedStore;
 use std::alloc::Global;
 use sync_messages::{Entity, Schema, write_summary};
@@ -109,8 +110,10 @@ fn fetch_missing_entries<R: Source, W: Sink>(
     ensures no_host { (f : NetworkFault) → result ≡ Err (PullFault.Network f) → ReportsNoHost host.now f }
     ensures too_large { (f : NetworkFault) → result ≡ Err (PullFault.Network f)
         → ReportsTooLarge host.now (summary_size (schema_view schema.now) (abstract_store store.now)) f }
-    ensures reads { result ≢ Err (PullFault.Network NetworkFault.Read) → R.failed reader.new ≡ R.failed reader.old }
-    ensures writes { result ≢ Err (PullFault.Network NetworkFault.Write) → W.failed writer.new ≡ W.failed writer.old }
+    ensures reads { result ≢ Err (PullFault.Network (NetworkFault.Fetch FetchFault.Read))
+        → R.failed reader.new ≡ R.failed reader.old }
+    ensures writes { result ≢ Err (PullFault.Network (NetworkFault.Fetch FetchFault.Write))
+        → W.failed writer.new ≡ W.failed writer.old }
 {
     match write_summary(alloc, schema, store) {
         Ok(summary) => ask(alloc, ExchangeCall::Delta, host, &summary, reader, writer),
@@ -148,8 +151,10 @@ fn pull_under<R: Source, W: Sink>(
     ensures no_host { (f : NetworkFault) → result ≡ Err (PullFault.Network f) → ReportsNoHost host.now f }
     ensures too_large { (f : NetworkFault) → result ≡ Err (PullFault.Network f)
         → ReportsTooLarge host.now (summary_size (schema_view schema.now) (abstract_store store)) f }
-    ensures reads { result ≢ Err (PullFault.Network NetworkFault.Read) → R.failed reader.new ≡ R.failed reader.old }
-    ensures writes { result ≢ Err (PullFault.Network NetworkFault.Write) → W.failed writer.new ≡ W.failed writer.old }
+    ensures reads { result ≢ Err (PullFault.Network (NetworkFault.Fetch FetchFault.Read))
+        → R.failed reader.new ≡ R.failed reader.old }
+    ensures writes { result ≢ Err (PullFault.Network (NetworkFault.Fetch FetchFault.Write))
+        → W.failed writer.new ≡ W.failed writer.old }
 {
     match fetch_missing_entries(alloc, schema, &store, host, reader, writer) {
         Ok(body) => pull_result(take_reply(alloc, schema, store, &body)),
@@ -220,10 +225,12 @@ pub fn pull_over<R: Source, W: Sink>(
         × ReportsTooLarge host.now (summary_size s m) f }
 
     // Each failure of a device is reported.
-    ensures reads { result ≢ Err (PullFault.Network NetworkFault.Read) → R.failed reader.new ≡ R.failed reader.old }
-    ensures writes { result ≢ Err (PullFault.Network NetworkFault.Write) → W.failed writer.new ≡ W.failed writer.old }
+    ensures reads { result ≢ Err (PullFault.Network (NetworkFault.Fetch FetchFault.Read))
+        → R.failed reader.new ≡ R.failed reader.old }
+    ensures writes { result ≢ Err (PullFault.Network (NetworkFault.Fetch FetchFault.Write))
+        → W.failed writer.new ≡ W.failed writer.old }
 {
-    match schema_in(alloc, schema) {
+    match parse_schema(alloc, schema) {
         Ok(schema) => match store_in(alloc, &schema, state) {
             Ok(store) => pull_under(alloc, &schema, store, host, reader, writer),
             Err(refusal) => Err(PullFault::Refused(refusal)),

@@ -11,7 +11,8 @@ ghost use Rattle.program_lines.specs.inner.ClapErrors.{IsWhyIncomplete};
 use crate::app::command;
 use crate::fault::{LineFault, line_fault_of};
 use crate::options::{
-    connections_in, flag_in, idle_in, is_given_invalid_site, option_text, site_in, sites_in,
+    connections_option, flag_in, idle_option, is_given_invalid_site, option_text, site_option,
+    sites_option,
 };
 use clap::ArgMatches;
 use stamped_store::SiteName;
@@ -141,7 +142,7 @@ fn found_command<'m, 'a>(matches: &'m ArgMatches<'a>) -> Option<(&'a str, &'m Ar
 }
 
 /// Returns `check`, if it has both files.
-fn check_in<'a>(options: &ArgMatches<'a>) -> Option<Line<'a>>
+fn check_line<'a>(options: &ArgMatches<'a>) -> Option<Line<'a>>
     ensures { MatchOption result (IsNone (IsLineOf (codes "check") (rows_of (found_of options.now))))
         (IsLineOf (codes "check") (rows_of (found_of options.now))) }
 {
@@ -160,7 +161,7 @@ fn check_in<'a>(options: &ArgMatches<'a>) -> Option<Line<'a>>
 }
 
 /// Returns `decide`, if it has each required file.
-fn decide_in<'a>(options: &ArgMatches<'a>) -> Option<Line<'a>>
+fn decide_line<'a>(options: &ArgMatches<'a>) -> Option<Line<'a>>
     ensures { MatchOption result (IsNone (IsLineOf (codes "decide") (rows_of (found_of options.now))))
         (IsLineOf (codes "decide") (rows_of (found_of options.now))) }
 {
@@ -185,14 +186,14 @@ fn decide_in<'a>(options: &ArgMatches<'a>) -> Option<Line<'a>>
 }
 
 /// Returns `load`, if it has each required option and a valid site name.
-fn load_in<'a>(options: &ArgMatches<'a>) -> Option<Line<'a>>
+fn load_line<'a>(options: &ArgMatches<'a>) -> Option<Line<'a>>
     ensures { MatchOption result (IsNone (IsLineOf (codes "load") (rows_of (found_of options.now))))
         (IsLineOf (codes "load") (rows_of (found_of options.now))) }
 {
     let Some(schema) = option_text(options, "schema") else {
         return None;
     };
-    let Some(site) = site_in(options) else {
+    let Some(site) = site_option(options) else {
         return None;
     };
     let policies = option_text(options, "policies");
@@ -210,23 +211,23 @@ fn load_in<'a>(options: &ArgMatches<'a>) -> Option<Line<'a>>
 }
 
 /// Returns `serve`, if it has each required option, a valid site name, and numbers within their bounds.
-fn serve_in<'a>(options: &ArgMatches<'a>) -> Option<Line<'a>>
+fn serve_line<'a>(options: &ArgMatches<'a>) -> Option<Line<'a>>
     ensures { MatchOption result (IsNone (IsLineOf (codes "serve") (rows_of (found_of options.now))))
         (IsLineOf (codes "serve") (rows_of (found_of options.now))) }
 {
     let Some(schema) = option_text(options, "schema") else {
         return None;
     };
-    let Some(site) = site_in(options) else {
+    let Some(site) = site_option(options) else {
         return None;
     };
     let Some(listen) = option_text(options, "listen") else {
         return None;
     };
-    let Some(connections) = connections_in(options) else {
+    let Some(connections) = connections_option(options) else {
         return None;
     };
-    let Some(idle) = idle_in(options) else {
+    let Some(idle) = idle_option(options) else {
         return None;
     };
     let state = option_text(options, "state");
@@ -245,14 +246,14 @@ fn serve_in<'a>(options: &ArgMatches<'a>) -> Option<Line<'a>>
 }
 
 /// Returns `pull`, if it has each option and a valid site name.
-fn pull_in<'a>(options: &ArgMatches<'a>) -> Option<Line<'a>>
+fn pull_line<'a>(options: &ArgMatches<'a>) -> Option<Line<'a>>
     ensures { MatchOption result (IsNone (IsLineOf (codes "pull") (rows_of (found_of options.now))))
         (IsLineOf (codes "pull") (rows_of (found_of options.now))) }
 {
     let Some(schema) = option_text(options, "schema") else {
         return None;
     };
-    let Some(site) = site_in(options) else {
+    let Some(site) = site_option(options) else {
         return None;
     };
     let Some(from) = option_text(options, "from") else {
@@ -270,7 +271,7 @@ fn pull_in<'a>(options: &ArgMatches<'a>) -> Option<Line<'a>>
 }
 
 /// Returns `exchange`, if it has the schema and both addresses.
-fn exchange_in<'a>(options: &ArgMatches<'a>) -> Option<Line<'a>>
+fn exchange_line<'a>(options: &ArgMatches<'a>) -> Option<Line<'a>>
     ensures { MatchOption result (IsNone (IsLineOf (codes "exchange") (rows_of (found_of options.now))))
         (IsLineOf (codes "exchange") (rows_of (found_of options.now))) }
 {
@@ -291,7 +292,7 @@ fn exchange_in<'a>(options: &ArgMatches<'a>) -> Option<Line<'a>>
 }
 
 /// Returns `merge`, if it has each file.
-fn merge_in<'a>(options: &ArgMatches<'a>) -> Option<Line<'a>>
+fn merge_line<'a>(options: &ArgMatches<'a>) -> Option<Line<'a>>
     ensures { MatchOption result (IsNone (IsLineOf (codes "merge") (rows_of (found_of options.now))))
         (IsLineOf (codes "merge") (rows_of (found_of options.now))) }
 {
@@ -314,14 +315,14 @@ fn merge_in<'a>(options: &ArgMatches<'a>) -> Option<Line<'a>>
 }
 
 /// Returns `drill`, if it has both files, and a number of sites within its bounds.
-fn drill_in<'a>(options: &ArgMatches<'a>) -> Option<Line<'a>>
+fn drill_line<'a>(options: &ArgMatches<'a>) -> Option<Line<'a>>
     ensures { MatchOption result (IsNone (IsLineOf (codes "drill") (rows_of (found_of options.now))))
         (IsLineOf (codes "drill") (rows_of (found_of options.now))) }
 {
     let Some(schema) = option_text(options, "schema") else {
         return None;
     };
-    let Some(sites) = sites_in(options) else {
+    let Some(sites) = sites_option(options) else {
         return None;
     };
     let Some(script) = option_text(options, "script") else {
@@ -335,7 +336,7 @@ fn drill_in<'a>(options: &ArgMatches<'a>) -> Option<Line<'a>>
 }
 
 /// Returns `explain`, if it has its code or file.
-fn explain_in<'a>(options: &ArgMatches<'a>) -> Option<Line<'a>>
+fn explain_line<'a>(options: &ArgMatches<'a>) -> Option<Line<'a>>
     ensures { MatchOption result (IsNone (IsLineOf (codes "explain") (rows_of (found_of options.now))))
         (IsLineOf (codes "explain") (rows_of (found_of options.now))) }
 {
@@ -359,37 +360,37 @@ fn named_line<'a>(name: &str, options: &ArgMatches<'a>) -> Option<Line<'a>>
         (IsLineOf name.now (rows_of (found_of options.now))) }
 {
     if name == "check" {
-        return check_in(options);
+        return check_line(options);
     }
     if name == "decide" {
-        return decide_in(options);
+        return decide_line(options);
     }
     if name == "load" {
-        return load_in(options);
+        return load_line(options);
     }
     if name == "serve" {
-        return serve_in(options);
+        return serve_line(options);
     }
     if name == "pull" {
-        return pull_in(options);
+        return pull_line(options);
     }
     if name == "exchange" {
-        return exchange_in(options);
+        return exchange_line(options);
     }
     if name == "merge" {
-        return merge_in(options);
+        return merge_line(options);
     }
     if name == "drill" {
-        return drill_in(options);
+        return drill_line(options);
     }
     if name == "explain" {
-        return explain_in(options);
+        return explain_line(options);
     }
     None
 }
 
 /// Returns the command that clap found, if it has all required options with valid values.
-fn line_in<'a>(matches: &ArgMatches<'a>) -> Option<Line<'a>>
+fn found_line<'a>(matches: &ArgMatches<'a>) -> Option<Line<'a>>
     ensures { MatchOption result (IsNoLine (subcommand_rows_of matches.now))
         (λ line. IsNamed line (subcommand_rows_of matches.now)) }
 {
@@ -445,7 +446,7 @@ pub fn line_of<'a>(alloc: Global, words: &'a [String]) -> Result<Line<'a>, LineF
         Ok(matches) => matches,
         Err(error) => return Err(line_fault_of(error)),
     };
-    match line_in(&matches) {
+    match found_line(&matches) {
         Some(line) => Ok(line),
         None => Err(why_incomplete(&matches)),
     }

@@ -38,7 +38,7 @@ fn number_in(text: &str, least: u64, most: u64) -> Option<u64>
 }
 
 /// Returns the value of `--site`, if it is a site name.
-pub(crate) fn site_in(options: &ArgMatches<'_>) -> Option<SiteName>
+pub(crate) fn site_option(options: &ArgMatches<'_>) -> Option<SiteName>
     ensures { MatchOption result (IsNone (IsGivenSite (rows_of (found_of options.now))))
         (IsGivenSite (rows_of (found_of options.now))) }
 {
@@ -60,7 +60,7 @@ pub(crate) fn is_given_invalid_site(options: &ArgMatches<'_>) -> bool
 
 /// Returns the number of connections: `Some(Some(n))` for `n` from 0 to 4,294,967,295, `Some(None)` if the option is
 /// absent, and `None` for another value.
-pub(crate) fn connections_in(options: &ArgMatches<'_>) -> Option<Option<u32>>
+pub(crate) fn connections_option(options: &ArgMatches<'_>) -> Option<Option<u32>>
     ensures { MatchOption result
         (IsNone (MayBeGivenNumber (rows_of (found_of options.now)) (codes "connections") 0 4294967295))
         (MayBeGivenNumber (rows_of (found_of options.now)) (codes "connections") 0 4294967295) }
@@ -76,7 +76,7 @@ pub(crate) fn connections_in(options: &ArgMatches<'_>) -> Option<Option<u32>>
 
 /// Returns the seconds that a connection may be idle: `Some(Some(n))` for `n` from 1 to 86,400, `Some(None)` if the
 /// option is absent, and `None` for another value.
-pub(crate) fn idle_in(options: &ArgMatches<'_>) -> Option<Option<u32>>
+pub(crate) fn idle_option(options: &ArgMatches<'_>) -> Option<Option<u32>>
     ensures { MatchOption result
         (IsNone (MayBeGivenNumber (rows_of (found_of options.now)) (codes "idle") 1 86400))
         (MayBeGivenNumber (rows_of (found_of options.now)) (codes "idle") 1 86400) }
@@ -91,7 +91,7 @@ pub(crate) fn idle_in(options: &ArgMatches<'_>) -> Option<Option<u32>>
 }
 
 /// Returns the number of sites, or `None` if the value is absent or not a number from 1 to 64.
-pub(crate) fn sites_in(options: &ArgMatches<'_>) -> Option<u16>
+pub(crate) fn sites_option(options: &ArgMatches<'_>) -> Option<u16>
     ensures { MatchOption result
         (IsNone (IsGivenNumber (rows_of (found_of options.now)) (codes "sites") 1 64))
         (IsGivenNumber (rows_of (found_of options.now)) (codes "sites") 1 64) }

@@ -1,16 +1,18 @@
 -- The reading of texts under a schema agrees with its relations.
 use Rattle.std.proofs.Common.{◌≡◌, ◌∙◌, ℕ, List, false, None, Result, Ok, Err, refl, sym, ap}
 use Rattle.std.specs.Prelude.{◌==◌}
-use Rattle.serde_json.specs.Data.{Data}
+use Rattle.serde_json.specs.Data.{Data, Members}
 use Rattle.values.specs.declared.entity_uid.EntityUid.{EntityUid}
+use Rattle.validator.specs.schema_types.Cedar.{Cedar, CedarFields}
 use Rattle.entity_hierarchy.specs.schema.Schemas.{StatedSchema}
-use Rattle.entity_hierarchy.specs.entities.declared.value_fault.ValueFault.{ValueFault}
 use Rattle.entity_hierarchy.specs.entities.declared.fault.EntityFault.{EntityFault}
 use Rattle.entity_hierarchy.specs.entities.Faults.{code_of}
 use Rattle.entity_hierarchy.specs.entities.Entities.{entity_stated_in}
 use Rattle.entity_hierarchy.specs.entities.ParsingLaws.{EntitiesAreRead, RequestsAreRead}
-use Rattle.entity_hierarchy.specs.entities.StatedEntities.{DescribesEntity, RefusesEntity, RefusesParents, IsReportedAs}
+use Rattle.entity_hierarchy.specs.entities.StatedEntities.{DescribesEntity, RefusesEntity, RefusesParents}
 use Rattle.entity_hierarchy.specs.entities.StatedEntities as says
+use Rattle.entity_hierarchy.specs.entities.StatedValues.{FaultyMember, RefusesRecord}
+use Rattle.entity_hierarchy.specs.entities.StatedValues as values
 use Rattle.decision_texts.specs.entity_data.declared.entity.Entity.{Entity}
 use Rattle.decision_texts.specs.answer_lines.declared.refusal.Refusal.{Refusal}
 use Rattle.decision_texts.specs.Settings.{reported_by}
@@ -30,17 +32,22 @@ parents_code s uid ps fault (says.self_parent p more same) = refl
 parents_code s uid ps fault (says.bad_parent p more other none) = refl
 parents_code s uid ps fault (says.later_parent p more f fits rest) = parents_code s uid more f rest
 
-reported_code : (f : ValueFault) (fault : EntityFault) → IsReportedAs f fault → (code_of fault == 1) ≡ false
-reported_code f fault says.as_undeclared = refl
-reported_code f fault says.as_wrong_type = refl
-reported_code f fault says.as_missing = refl
+member_code : (fs : CedarFields) (ms : Members) (fault : EntityFault) → FaultyMember fs ms fault → (code_of fault == 1) ≡ false
+member_code fs ms fault (values.undeclared key d more none) = refl
+member_code fs ms fault (values.wrong_type key d more t here none) = refl
+member_code fs ms fault (values.later_fault key d more f t v here reads rest) = member_code fs more f rest
+
+record_code : (t : Cedar) (ms : Members) (fault : EntityFault) → RefusesRecord t ms fault → (code_of fault == 1) ≡ false
+record_code t ms fault (values.no_record other members none) = refl
+record_code t ms fault (values.faulty fields members f bad) = member_code fields members f bad
+record_code t ms fault (values.missing fields members stated reads lack) = refl
 
 entity_code : (s : StatedSchema) (d : Data) (fault : EntityFault) → RefusesEntity s d fault → (code_of fault == 1) ≡ false
 entity_code s d fault (says.bad_shape none) = refl
 entity_code s d fault (says.action_entity uid listed attributes tags form action) = refl
 entity_code s d fault (says.unknown_type uid listed attributes tags form action shape) = refl
 entity_code s d fault (says.tags_left_out uid listed attributes tags shape form has some) = refl
-entity_code s d fault (says.bad_attributes uid listed attributes shape f told form has bad reported) = reported_code f told reported
+entity_code s d fault (says.bad_attributes uid listed attributes shape told form has bad) = record_code shape attributes told bad
 entity_code s d fault (says.bad_parents uid listed attributes shape attrs told form has reads bad) = parents_code s uid listed told bad
 
 -- ---- entities

@@ -9,7 +9,7 @@ use Rattle.entity_hierarchy.specs.schema.Schemas.{StatedSchema, IsSchemaOf}
 use Rattle.entity_hierarchy.specs.entities.declared.fault.EntityFault.{EntityFault}
 use Rattle.entity_hierarchy.specs.entities.Requests.{ParsesRequest, RequestRefused}
 use Rattle.entity_hierarchy.specs.entities.Laws as requests
-use Rattle.validator.specs.declared.fault.TypeFault.{TypeFault}
+use Rattle.validator.specs.typing.declared.fault.TypeFault.{TypeFault}
 use Rattle.validator.specs.Passing.{Passes, IsCheckRefused}
 use Rattle.validator.specs.Outcomes as checks
 use Rattle.decision_texts.specs.answer_lines.declared.refusal.Refusal.{Refusal}

@@ -18,3 +18,4 @@ pub use Rattle.decision_texts.specs.policy_grammar
 pub use Rattle.validator.specs as validator
 pub use Rattle.validator.specs.schema
 pub use Rattle.validator.specs.schema_types
+pub use Rattle.validator.specs.typing

@@ -4,7 +4,7 @@
 use Rattle.std.specs.Prelude.{ℕ, Bool, true, false, List, codes}
 use Rattle.serde_json.specs.Data.{Data, string, number, object, unsigned, no_members, member}
 use Rattle.serde_json.specs.Written.{compact_text}
-use Rattle.validator.specs.Faults.{code_of}
+use Rattle.validator.specs.typing.Codes.{code_of}
 use Rattle.validator.specs.Outcomes.{CheckResult, passes, refused}
 
 -- `passed_json id word` is the JSON `{"id":"policy0","verdict":"accepted"}`, with `id` for `policy0` and `word` for

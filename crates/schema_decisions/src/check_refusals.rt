@@ -3,7 +3,7 @@
 ghost use Rattle.std.specs.Prelude.{◌≡◌};
 ghost use Rattle.schema_decisions.specs.CheckRefusals.{schema_refusal, check_refusal};
 
-use decision_texts::Refusal;
+use decision_texts::{Place, Refusal};
 use validator::{SchemaFault, TypeFault};
 
 /// Converts an error of the schema (20 to 25, or 1 for `NoMemory`) to a [`Refusal`] without a place.
@@ -19,12 +19,12 @@ pub fn schema_refusal(fault: SchemaFault) -> Refusal
 
 /// Converts an error of validation (40 to 46) to a [`Refusal`] whose place is the policy's index in its file.
 /// `NoMemory` (1) has no place.
-pub fn check_refusal(place: usize, fault: TypeFault) -> Refusal
-    ensures { result ≡ check_refusal place fault }
+pub fn check_refusal(index: usize, fault: TypeFault) -> Refusal
+    ensures { result ≡ check_refusal index fault }
 {
     let place = match fault {
         TypeFault::NoMemory => None,
-        _ => Some(place),
+        _ => Some(Place::Index(index)),
     };
     Refusal {
         code: fault.code(),

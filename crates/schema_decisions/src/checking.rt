@@ -9,7 +9,7 @@ ghost use Rattle.schema_decisions.specs.Checks.{AreReportsOf, AreReportsOnFile, 
 ghost use Rattle.schema_decisions.specs.inner.Named.{named_in, outcome_of};
 
 use crate::lines::{add_line, verdict_line};
-use crate::reading::schema_in;
+use crate::reading::parse_schema;
 use decision_texts::{Policy, Refusal, policies_of_file};
 use plain::NoMemory;
 use std::alloc::Global;
@@ -103,6 +103,6 @@ pub fn check_texts(
     ensures refused { IfErr result
         (λ refusal. (refusal ≡ no_memory → ⊥) → AreChecksRefused schema.now policies.now refusal) }
 {
-    let schema = schema_in(alloc, schema)?;
+    let schema = parse_schema(alloc, schema)?;
     check_file(alloc, &schema, policies)
 }

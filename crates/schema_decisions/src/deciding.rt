@@ -6,9 +6,9 @@ ghost use Rattle.schema_decisions.specs.Decisions.{IsDecided, IsSchemaDecisionRe
 ghost use Rattle.schema_decisions.specs.StatedDecisions.{DescribesSchemaDecision, RejectsSchemaDecision};
 
 use crate::laws::decisions_are_as_stated;
-use crate::reading::schema_in;
+use crate::reading::parse_schema;
 use crate::under_schema::UnderSchema;
-use decision_texts::{Refusal, decide_in};
+use decision_texts::{Refusal, decide_under_setting};
 use std::alloc::Global;
 
 /// Returns the line of the answer to a request under a schema, over a file of policies and an array of entities.
@@ -45,7 +45,7 @@ pub fn decide_under(
         (OrNoMemory no_memory (RejectsSchemaDecision schema.now policies.now entities.now request.now)) }
 {
     decisions_are_as_stated();
-    let schema = schema_in(alloc, schema)?;
+    let schema = parse_schema(alloc, schema)?;
     let setting = UnderSchema { schema: &schema };
-    decide_in(alloc, &setting, policies, entities, request)
+    decide_under_setting(alloc, &setting, policies, entities, request)
 }

@@ -19,11 +19,13 @@ pub use checking::check_texts;
 pub use deciding::decide_under;
 pub use dropping::{drop_policies, drop_schema};
 pub use laws::{decisions_are_as_stated, texts_have_one_outcome};
-pub use reading::schema_in;
+pub use reading::parse_schema;
 pub use under_schema::UnderSchema;
 
 // of this layer
-pub use decision_texts::{Refusal, answer_line, check_entities, decide_texts, policies_of_file};
+pub use decision_texts::{
+    Place, Refusal, answer_line, check_entities, decide_texts, policies_of_file,
+};
 
 // of lower layers
 pub use decision_texts::{Answer, Policy};

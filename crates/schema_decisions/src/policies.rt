@@ -13,7 +13,12 @@ use validator::{Schema, check};
 
 /// Checks that the policy at the index `place` of its file passes validation. The error of a policy that does not pass
 /// has this index as its place.
-fn check_at(alloc: Global, schema: &Schema, place: usize, policy: &Policy) -> Result<(), Refusal>
+fn check_policy_at(
+    alloc: Global,
+    schema: &Schema,
+    place: usize,
+    policy: &Policy,
+) -> Result<(), Refusal>
     ensures passes { IfOk result (λ _. Passes (schema_view schema.now) policy.now) }
     ensures refused { IfErr result (OrNoMemory no_memory (IsUnpassed (schema_view schema.now) place policy.now)) }
 {
@@ -34,7 +39,7 @@ pub(crate) fn check_each(
         (OrNoMemory no_memory (FirstUnpassed (schema_view schema.now) 0 (map (λ p. p.1) policies.now))) }
 {
     for (place, named) in policies.iter().enumerate() {
-        check_at(alloc, schema, place, &named.1)?;
+        check_policy_at(alloc, schema, place, &named.1)?;
     }
     Ok(())
 }

@@ -16,7 +16,7 @@ use validator::{Schema, read_schema};
 ///
 /// - 20 to 25, without a place: the first error of the schema.
 /// - `NoMemory` (1): an allocation failed; possible at any point.
-pub fn schema_in(alloc: Global, bytes: &[u8]) -> Result<Schema, Refusal>
+pub fn parse_schema(alloc: Global, bytes: &[u8]) -> Result<Schema, Refusal>
     ensures read { IfOk result (λ s. IsSchemaOf bytes.now (schema_view s)) }
     ensures refused { IfErr result (λ r. (r ≡ no_memory → ⊥) → IsSchemaRefused bytes.now r) }
 {

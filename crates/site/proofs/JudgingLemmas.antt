@@ -18,8 +18,8 @@ use Rattle.site_store.specs.schema.Schemas.{StatedSchema}
 use Rattle.site_store.specs.entity_data.declared.entity.Entity.{Entity}
 use Rattle.entities.specs.Canonical.{canonical_json, canonical_text}
 use Rattle.entities.specs.Entities.{entity_stated_in}
-use Rattle.sync_messages.specs.validator.declared.fault.TypeFault.{TypeFault}
-use Rattle.sync_messages.specs.validator.declared.fault.TypeFault.TheVariants as checking
+use Rattle.sync_messages.specs.typing.declared.fault.TypeFault.{TypeFault}
+use Rattle.sync_messages.specs.typing.declared.fault.TypeFault.TheVariants as checking
 use Rattle.sync_messages.specs.validator.Passing.{Passes, IsImpossible, IsCheckRefused}
 use Rattle.site_store.specs.stamped_store.declared.entry.ReadText.{ReadText}
 use Rattle.sync_messages.specs.Texts.{entity_of_text, ReadsEntity}
@@ -27,7 +27,8 @@ use Rattle.site.specs.declared.fault.SiteFault.{SiteFault}
 use Rattle.site.specs.declared.fault.SiteFault.TheVariants as fault
 use Rattle.site.specs.Admitted.{IsEntityUnder, IsPolicyId, IsNotAdmitted, no_policy, not_passing}
 use Rattle.site.specs.Faults.{of_reading, of_checking}
-use Rattle.site.specs.inner.Recording.{IsCheckedPolicy, IsStatedBy}
+use Rattle.site.specs.Admitted.{IsStatedBy}
+use Rattle.site.specs.inner.Recording.{IsCheckedPolicy}
 
 module _ (s : StatedSchema) (id text : List ℕ) (named : IsPolicyId id) (utf8 : IsUtf8 text) (r : SiteFault) where
   -- a text that is not a policy's

@@ -19,7 +19,7 @@ use Rattle.entities.specs.declared.fault.EntityFault.{EntityFault}
 use Rattle.entities.specs.declared.fault.EntityFault.TheVariants.{BadShape}
 use Rattle.entity_uids.specs.Uids.{uid_in}
 use Rattle.entities.specs.Canonical.{canonical_text}
-use Rattle.sync_messages.specs.validator.declared.fault.TypeFault.{TypeFault}
+use Rattle.sync_messages.specs.typing.declared.fault.TypeFault.{TypeFault}
 use Rattle.sync_messages.specs.validator.Outcomes.{refused as check_refused, PoliciesHaveOneOutcome, PassingIsNotRefused}
 use Rattle.sync_messages.specs.validator.Passing.{IsImpossible, IsCheckRefused}
 use Rattle.site_store.specs.stamped_store.declared.entry.Stamp.{Stamp}

@@ -1,5 +1,5 @@
 -- Entities and requests that are read have the types that a schema declares.
-use Rattle.std.proofs.Common.{◌≡◌, ℕ, List, [], ◌∷◌, Bool, true, false, not, cond, Option, Some, Result, Ok, Err, refl}
+use Rattle.std.proofs.Common.{◌≡◌, ℕ, List, [], ◌∷◌, Bool, true, false, not, cond, Option, Some, Ok, refl}
 use Rattle.std.proofs.Common.{sym, ap, subst}
 use Rattle.std.specs.Prelude.{Contains, ◌&&◌, codes, ⊤}
 use Rattle.std.specs.Str.{bytes_eq}
@@ -9,12 +9,10 @@ use Rattle.serde_json.specs.Find.{get, as_object}
 use Rattle.values.specs.declared.entity_uid.EntityUid.{EntityUid}
 use Rattle.site_store.specs.schema.declared.parts.EnvironmentKey.{EnvironmentKey}
 use Rattle.site_store.specs.schema.Schemas.{EnvironmentOf, StatedSchema}
-use Rattle.entities.specs.declared.value_fault.ValueFault.{ValueFault}
 use Rattle.entities.specs.declared.fault.EntityFault.TheVariants.{UnknownType, ActionEntity, TagsLeftOut}
 use Rattle.entities.specs.declared.fault.EntityFault.TheVariants.{NotApplicable}
 use Rattle.site_store.specs.entity_data.declared.entity.Entity.{Entity}
 use Rattle.entities.specs.declared.stated.StatedEntity.{StatedEntity}
-use Rattle.entities.specs.Faults.{with_entity_fault}
 use Rattle.entities.specs.EntityForms.{stated_in, is_absent_or_empty, or_empty}
 use Rattle.entities.specs.Entities.{is_action_type, shape_of, attributes_in, parents_in, entity_stated_in}
 use Rattle.entities.specs.Contexts.{context_where, is_place}
@@ -29,7 +27,7 @@ use Rattle.values.specs.Fields.{Field}
 use Rattle.values.specs.Laws.{SetsHoldTheirMembers}
 use Rattle.site_meaning.specs.schema_types.Cedar as cedar
 use Rattle.site_meaning.specs.schema_types.Cedar.{Cedar, CedarFields}
-use Rattle.entities.specs.declared.value_fault.ValueFault.TheVariants.{WrongType, Missing}
+use Rattle.entities.specs.declared.fault.EntityFault.TheVariants.{WrongType, Missing}
 use Rattle.entities.specs.Parts as parts
 use Rattle.entities.specs.Typing.{all_there, typed_members, record_in}
 use Rattle.sync_messages.specs.typing.Types.{FieldTypes, no_field_types, record_type}
@@ -71,10 +69,6 @@ records_are_of made t d vs e =
 
 -- ---- entities
 
-told_of : {A : Type 0} (r : Result A ValueFault) (x : A) → with_entity_fault r ≡ Ok x → r ≡ Ok x
-told_of (Ok y) x h = cc
-told_of (Err f) x h = absurd cc
-
 not_action : (b : Bool) (s : StatedSchema) (name : List ℕ) → not b ≡ true → cond b no_field_types (shape_fields (s.shape name)) ≡ shape_fields (s.shape name)
 not_action true s name h = absurd cc
 not_action false s name h = refl
@@ -92,9 +86,9 @@ attributes_are_of : SetsHoldTheirMembers → (s : StatedSchema) (name : List ℕ
     → Of (record_of (fields_of fs)) (record_type (attributes_of s name))
 unfolding attributes_in
 attributes_are_of made s name d fs e =
-    let a = bound (shape_of s name) (λ (t : Cedar). demand TagsLeftOut (is_absent_or_empty (get (codes "tags") d)) >>= λ (x : ⊤). with_entity_fault (record_in t (or_empty (get (codes "attrs") d)))) fs e in
-    let b = bound (demand TagsLeftOut (is_absent_or_empty (get (codes "tags") d))) (λ (x : ⊤). with_entity_fault (record_in a.0 (or_empty (get (codes "attrs") d)))) fs a.2 in
-    let read : record_in a.0 (or_empty (get (codes "attrs") d)) ≡ Ok fs = told_of (record_in a.0 (or_empty (get (codes "attrs") d))) fs b.2 in
+    let a = bound (shape_of s name) (λ (t : Cedar). demand TagsLeftOut (is_absent_or_empty (get (codes "tags") d)) >>= λ (x : ⊤). record_in t (or_empty (get (codes "attrs") d))) fs e in
+    let b = bound (demand TagsLeftOut (is_absent_or_empty (get (codes "tags") d))) (λ (x : ⊤). record_in a.0 (or_empty (get (codes "attrs") d))) fs a.2 in
+    let read : record_in a.0 (or_empty (get (codes "attrs") d)) ≡ Ok fs = b.2 in
     subst (λ (ts : FieldTypes). Of (record_of (fields_of fs)) (record_type ts)) (sym (shape_is s name a.0 a.1)) (records_are_of made a.0 (or_empty (get (codes "attrs") d)) fs read)
 
 pub entities_are_of : SetsHoldTheirMembers → EntitiesAreOfTheirTypes
@@ -129,7 +123,7 @@ unfolding context_asked
 requests_are_of made s d q states =
     let passes : EnvironmentKey → Bool = is_place q.action q.principal.type_name q.resource.type_name in
     let asked : Data = or_empty (get (codes "context") d) in
-    let a = bound (or_fault NotApplicable (context_where passes s.environments)) (λ (t : Cedar). with_entity_fault (record_in t asked)) q.context states.context in
+    let a = bound (or_fault NotApplicable (context_where passes s.environments)) (λ (t : Cedar). record_in t asked) q.context states.context in
     let found = is_where passes s.environments a.0 (some_of NotApplicable (context_where passes s.environments) a.0 a.1) in
     let place : EnvironmentKey = found.0.place in
     let one = both_true (is_same place.action q.action) (bytes_eq place.principal q.principal.type_name && bytes_eq place.resource q.resource.type_name) found.2 in
@@ -140,6 +134,6 @@ requests_are_of made s d q states =
         principal = sym (same_bytes place.principal q.principal.type_name two.0);
         action = sym (same_uid place.action q.action one.0);
         resource = sym (same_bytes place.resource q.resource.type_name two.1);
-        context = context_static made a.0 found.0.context asked q.context found.3 (told_of (record_in a.0 asked) q.context a.2);
+        context = context_static made a.0 found.0.context asked q.context found.3 a.2;
       },
     )

@@ -26,7 +26,8 @@ use Rattle.site.specs.Admitted.{entity_stated}
 use Rattle.site.specs.Readings.{parsed}
 use Rattle.site.specs.SiteViews.{IsHeld, IsSite}
 use Rattle.site.specs.Steps.{Records, PutsPolicy, PutsEntity, Deletes}
-use Rattle.site.specs.inner.Recording.{RecordsOr, PutsUnless, IsNext, put_result, IsStatedBy, IsNoEntityFault, IsCheckedPolicy}
+use Rattle.site.specs.Admitted.{IsStatedBy, IsNoEntityFault}
+use Rattle.site.specs.inner.Recording.{RecordsOr, PutsUnless, IsNext, put_result, IsCheckedPolicy}
 use Rattle.plain.specs.AllocationErrors.{OrNoMemory}
 
 -- ---- what is always true of a site, after a call that may have found no memory

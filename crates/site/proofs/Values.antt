@@ -16,8 +16,8 @@ use Rattle.values.specs.Fields.{Field, find_field}
 use Rattle.values.specs.Uids.{text_cmp, text_cmp-IsAntisymmetric}
 use Rattle.values.specs.Sets.{set_list}
 use Rattle.values.specs.Laws.{SetsHoldTheirMembers}
-use Rattle.entities.specs.declared.value_fault.ValueFault.{ValueFault}
-use Rattle.entities.specs.declared.value_fault.ValueFault.TheVariants.{WrongType, Undeclared}
+use Rattle.entities.specs.declared.fault.EntityFault.{EntityFault}
+use Rattle.entities.specs.declared.fault.EntityFault.TheVariants.{WrongType, Undeclared}
 use Rattle.site_meaning.specs.schema_types.Cedar as cedar
 use Rattle.site_meaning.specs.schema_types.Cedar.{Cedar, CedarFields, no_fields, field}
 use Rattle.entities.specs.Parts.{element_of, fields_in, declared_at}
@@ -223,7 +223,7 @@ fields_static (cedar.record_of fs) gs e = let same : fs ≡ gs = cc in ap (λ (s
 fields_static cedar.decimal gs e = absurd cc
 fields_static cedar.ipaddr gs e = absurd cc
 
-inside_of : {A : Type 0} (r : Result A ValueFault) (x : A) → inside r ≡ Ok x → r ≡ Ok x
+inside_of : {A : Type 0} (r : Result A EntityFault) (x : A) → inside r ≡ Ok x → r ≡ Ok x
 inside_of (Ok y) x h = h
 inside_of (Err f) x h = absurd cc
 

@@ -19,7 +19,6 @@ use Rattle.entities.specs.declared.fault.EntityFault.TheVariants.{UnknownType, A
 use Rattle.entities.specs.declared.fault.EntityFault.TheVariants.{SelfParent, BadParent}
 use Rattle.site_store.specs.entity_data.declared.entity.Entity.{Entity}
 use Rattle.entities.specs.declared.stated.StatedEntity.{StatedEntity}
-use Rattle.entities.specs.Faults.{with_entity_fault}
 use Rattle.entities.specs.EntityForms.{stated_in, is_absent_or_empty, or_empty}
 use Rattle.entities.specs.Entities.{is_action_type, shape_of, attributes_in, parent_fits, parents_fit}
 use Rattle.entities.specs.Entities.{parents_in, entity_stated_in}
@@ -55,7 +54,7 @@ shape_plain s name t h =
 attributes_plain : (s : StatedSchema) (name : List ℕ) (d : Data) (fs : List Field) → attributes_in s name d ≡ Ok fs → is_action_type name ≡ false
 unfolding attributes_in
 attributes_plain s name d fs h =
-    let a = bound (shape_of s name) (λ (t : Cedar). demand TagsLeftOut (is_absent_or_empty (get (codes "tags") d)) >>= λ (x : ⊤). with_entity_fault (record_in t (or_empty (get (codes "attrs") d)))) fs h in
+    let a = bound (shape_of s name) (λ (t : Cedar). demand TagsLeftOut (is_absent_or_empty (get (codes "tags") d)) >>= λ (x : ⊤). record_in t (or_empty (get (codes "attrs") d))) fs h in
     shape_plain s name a.0 a.1
 
 parent_may : (s : StatedSchema) (uid p : EntityUid) (x : ⊤) → parent_fits s uid p ≡ Ok x → s.may_have_parent uid.type_name p.type_name ≡ true

@@ -4,10 +4,11 @@
 -- request".
 -- Rules of this product: a policy's id is UTF-8 of 1 to 256 bytes, and is checked before the text; the length of the
 -- text is checked before its bytes, which are UTF-8; an entity is given as JSON; the order of the errors.
-use Rattle.std.specs.Prelude.{◌≡◌, ◌<◌, ◌≤◌, ℕ, List, length, Option, Some, None, Result}
+use Rattle.std.specs.Prelude.{◌≡◌, ◌<◌, ◌≤◌, ℕ, List, length, Option, Some, None, Result, Ok, Err}
 use Rattle.std.specs.Str.{IsUtf8}
 use Rattle.serde_json.specs.Data.{Data}
 use Rattle.json_words.specs.ReadsAs.{◌>>=◌, or_fault}
+use Rattle.plain.specs.Words.{IsPath}
 use Rattle.values.specs.declared.entity_uid.EntityUid.{EntityUid}
 use Rattle.values.specs.declared.request.Request.{Request}
 use Rattle.site_store.specs.policy_grammar.declared.policy.Policy.{Policy}
@@ -19,9 +20,11 @@ use Rattle.site_store.specs.schema.Schemas.{StatedSchema}
 use Rattle.site_store.specs.entity_data.declared.entity.Entity.{Entity}
 use Rattle.entities.specs.declared.fault.EntityFault.{EntityFault}
 use Rattle.entities.specs.declared.fault.EntityFault.TheVariants.{BadShape}
+use Rattle.entities.specs.Canonical.{canonical_text}
 use Rattle.entities.specs.Entities.{entity_stated_in}
+use Rattle.site_store.specs.stamped_store.declared.entry.ReadText.{ReadText}
 use Rattle.entities.specs.Requests.{ParsesRequest, RequestRefused}
-use Rattle.sync_messages.specs.validator.declared.fault.TypeFault.{TypeFault}
+use Rattle.sync_messages.specs.typing.declared.fault.TypeFault.{TypeFault}
 use Rattle.sync_messages.specs.validator.Passing.{IsCheckRefused}
 use Rattle.sync_messages.specs.sync_format.Summaries.{IsStamped}
 use Rattle.sync_messages.specs.sync_format.declared.update.Update.{Update}
@@ -76,6 +79,20 @@ abbrev pub entity_stated : StatedSchema → Option Data → Result Entity Entity
 entity_stated schema json = do
   d ← or_fault BadShape json
   entity_stated_in schema d
+
+-- `IsStatedBy schema json b` holds if `json` describes the entity in `b` under `schema`, and the text in `b` is this
+-- entity's canonical text, which is parsed under `schema` as the entity. The entity's type name is a path.
+pub record IsStatedBy (schema : StatedSchema) (json : Option Data) (b : ReadText Entity) : Type 0 where
+  pub states : entity_stated schema json ≡ Ok b.read
+  pub path : IsPath b.read.uid.type_name
+  pub canonical : b.text ≡ canonical_text b.read
+  pub reads : IsEntityUnder schema b.read.uid b.text b.read
+
+-- `IsNoEntityFault schema json f` holds if `json` does not describe an entity under `schema`, and `f` is the site's
+-- error for `json`.
+abbrev pub IsNoEntityFault : StatedSchema → Option Data → SiteFault → Type 0
+IsNoEntityFault schema json (fault.Entity f) = entity_stated schema json ≡ Err f
+IsNoEntityFault schema json _ = ⊥
 
 -- ---- requests
 

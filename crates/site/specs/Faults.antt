@@ -6,9 +6,9 @@ use Rattle.site_store.specs.policy_grammar.Faults as policy_faults
 use Rattle.site_store.specs.policy_grammar.declared.fault.ReadFault.{ReadFault}
 use Rattle.site_store.specs.policy_grammar.declared.fault.ReadFault.TheVariants as reading
 use Rattle.entities.specs.Faults as entity_faults
-use Rattle.sync_messages.specs.validator.Faults as check_faults
-use Rattle.sync_messages.specs.validator.declared.fault.TypeFault.{TypeFault}
-use Rattle.sync_messages.specs.validator.declared.fault.TypeFault.TheVariants as checking
+use Rattle.sync_messages.specs.typing.Codes as check_faults
+use Rattle.sync_messages.specs.typing.declared.fault.TypeFault.{TypeFault}
+use Rattle.sync_messages.specs.typing.declared.fault.TypeFault.TheVariants as checking
 use Rattle.sync_messages.specs.sync_format.Faults as message_faults
 use Rattle.sync_messages.specs.sync_format.declared.fault.MessageFault.{MessageFault}
 use Rattle.sync_messages.specs.sync_format.declared.fault.MessageFault.TheVariants as sending
@@ -28,13 +28,6 @@ code_of fault.NotThere = 60
 code_of fault.WouldCycle = 61
 code_of fault.ClockFull = 62
 code_of (fault.Request f) = 63
-
--- `place_of f` is the place of the error `f`, if it has one: the byte offset in a policy's text, or the index of a
--- message's entry or stamp.
-abbrev pub place_of : SiteFault → Option ℕ
-place_of (fault.Policy f) = policy_faults.place_of f
-place_of (fault.Message f) = message_faults.place_of f
-place_of _ = None
 
 -- `within_of f` is the code that is reported within the error `f`, if there is one.
 abbrev pub within_of : SiteFault → Option ℕ

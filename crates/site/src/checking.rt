@@ -11,8 +11,9 @@ ghost use Rattle.entities.specs.Entities.{entity_stated_in};
 ghost use Rattle.sync_messages.specs.validator.Passing.{Passes, IsImpossible};
 ghost use Rattle.plain.specs.AllocationErrors.{OrNoMemory};
 ghost use Rattle.site.specs.declared.fault.SiteFault.TheVariants as SiteFault;
-ghost use Rattle.site.specs.Admitted.{IsEntityUnder, IsNotAdmitted, IsPolicyId, IsRequestOf};
-ghost use Rattle.site.specs.inner.Recording.{IsDescribed, IsStatedBy, IsNoEntityFault, IsNoRequestFault};
+ghost use Rattle.site.specs.Admitted.{IsEntityUnder, IsNoEntityFault, IsNotAdmitted, IsPolicyId, IsRequestOf};
+ghost use Rattle.site.specs.Admitted.{IsStatedBy};
+ghost use Rattle.site.specs.inner.Recording.{IsDescribed, IsNoRequestFault};
 ghost use Rattle.site.specs.inner.Recording.{IsCheckedPolicy};
 
 use crate::fault::SiteFault;
@@ -166,7 +167,7 @@ fn with_name_and_text<N: Drop, P: Drop>(
 
 /// Returns the uid of the entity that `json` describes, and the entity with its canonical text; or the site's error for
 /// `json`, or `NoMemory`.
-pub(crate) fn stated_entity(
+pub fn stated_entity(
     alloc: Global,
     schema: &Schema,
     json: &Value,

@@ -35,7 +35,7 @@ use sync_messages::SchemaTexts;
 use values::EntityUid;
 
 /// Returns the result of putting a policy: the stamp, and whether the policy is impossible; or the error in `stamped`.
-fn put_of(stamped: Result<Stamp, SiteFault>, impossible: bool) -> Result<Put, SiteFault>
+fn put_from_stamp(stamped: Result<Stamp, SiteFault>, impossible: bool) -> Result<Put, SiteFault>
     ensures { result ≡ put_result impossible stamped }
 {
     match stamped {
@@ -166,7 +166,7 @@ impl Site {
                     impossible,
                 } = judged;
                 let stamped = self.record_policy(id, Some(body));
-                put_of(stamped, impossible)
+                put_from_stamp(stamped, impossible)
             }
             Err(fault) => Err(fault),
         }

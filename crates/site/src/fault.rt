@@ -1,6 +1,6 @@
 //! The errors of a site.
 ghost use Rattle.std.specs.Prelude.{◌≡◌};
-ghost use Rattle.site.specs.Faults.{of_reading, of_checking, of_message, code_of, place_of, within_of};
+ghost use Rattle.site.specs.Faults.{of_reading, of_checking, of_message, code_of, within_of};
 ghost use Rattle.site.specs.declared.fault.SiteFault.TheVariants.{NoMemory};
 
 use entities::EntityFault;
@@ -57,18 +57,6 @@ impl SiteFault {
             SiteFault::WouldCycle => 61,
             SiteFault::ClockFull => 62,
             SiteFault::Request(_) => 63,
-        }
-    }
-
-    /// Returns the byte offset in a policy's text, or the index of a message's entry or stamp; `None` if the error has
-    /// neither.
-    pub fn place(self) -> Option<usize>
-        ensures { result ≡ place_of self }
-    {
-        match self {
-            SiteFault::Policy(fault) => fault.place(),
-            SiteFault::Message(fault) => fault.place(),
-            _ => None,
         }
     }
 

@@ -37,6 +37,7 @@ mod under_schema;
 mod updates;
 mod world;
 
+pub use checking::stated_entity;
 pub use event::{Event, EventReply, Operation};
 pub use fault::SiteFault;
 pub use input::Input;

@@ -75,9 +75,9 @@ impl Site {
         }
     }
 
-    /// Applies updates in their order, until the allocation for one fails, and updates the caches after each. The
-    /// ancestor cache is dropped once its updates have cost much more than a rebuild.
-    fn take_all(&mut self, updates: Vec<Update<Policy, Entity>>) -> Taken
+    /// Applies updates as [`Self::take`] does, but absent caches stay absent. The caches that are present are updated
+    /// after each update; the ancestor cache is dropped once its updates have cost much more than a rebuild.
+    pub fn take_all(&mut self, updates: Vec<Update<Policy, Entity>>) -> Taken
         requires { AllByRecursion (IsValidUnder (schema_of self.old)) updates.items }
         ensures takes { TakesUpdates (store_in self.old) (plain_updates updates.items) result (store_in self.new) }
         ensures same { IsSameSite self.old self.new }

@@ -30,7 +30,7 @@ pub struct World {
 }
 
 /// Runs events at these sites. The contract covers only empty sites of one schema.
-fn simulate_at(alloc: Global, mut sites: Vec<Site>, events: &[Event]) -> Result<World, NoMemory>
+fn run_events(alloc: Global, mut sites: Vec<Site>, events: &[Event]) -> Result<World, NoMemory>
     ensures { IfOk result (λ w. (schema : StatedSchema) (names : List Named)
         → AreSitesOf schema names (start names).stores sites.items
         → IsRunTo schema names events.now w.replies.items w.sites.items w.messages.items w.summaries.items) }
@@ -90,5 +90,5 @@ pub fn simulate(
     first_sites_are_distinct();
     worlds_keep_promises();
     schema.is_stated();
-    simulate_at(alloc, new_sites(alloc, schema, count)?, events)
+    run_events(alloc, new_sites(alloc, schema, count)?, events)
 }

@@ -5,6 +5,7 @@ use Rattle.serde_json.specs.Data.{Data}
 use Rattle.schema_decisions.specs.schema.Schemas.{StatedSchema}
 use Rattle.site.specs.stamped_store.declared.entry.Stamp.{Stamp}
 use Rattle.site.specs.stamped_store.Store.{Store}
+use Rattle.schema_decisions.specs.answer_lines.declared.place.Place.TheVariants.{Index}
 use Rattle.schema_decisions.specs.answer_lines.declared.refusal.Refusal.{Refusal}
 use Rattle.schema_decisions.specs.answer_lines.Refusals.{no_memory}
 use Rattle.site.specs.declared.fault.SiteFault.{SiteFault}
@@ -20,11 +21,11 @@ pub data Operation : Type 0 where
   policy_put : List ℕ → List ℕ → Operation
   entity_put : Data → Operation
 
--- `put_refusal place f` is the report on the error `f` of the put at the index `place` of its file; `NoMemory` has no
+-- `put_refusal index f` is the report on the error `f` of the put at the index `index` of its file; `NoMemory` has no
 -- place.
 abbrev pub put_refusal : ℕ → SiteFault → Refusal
-put_refusal place NoMemory = no_memory
-put_refusal place f = record { code = code_of f; place = Some place; within = within_of f }
+put_refusal index NoMemory = no_memory
+put_refusal index f = record { code = code_of f; place = Some (Index index); within = within_of f }
 
 -- for a site of the schema `schema`, named `n`
 module _ (schema : StatedSchema) (n : List ℕ) where

@@ -9,4 +9,4 @@ mod refusal;
 pub use loading::loaded_state;
 
 // of lower layers
-pub use schema_decisions::{check_texts, decide_texts, decide_under, schema_in};
+pub use schema_decisions::{check_texts, decide_texts, decide_under, parse_schema};

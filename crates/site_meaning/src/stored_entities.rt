@@ -61,7 +61,7 @@ impl EntitySource for StoredEntities<'_> {
 
     fn parents_at(&self, uid: &EntityUid) -> &[EntityUid] {
         match entity_in(self.store, uid) {
-            Some(entity) => entity.parents.as_slice(),
+            Some(entity) => entity.parents.members(),
             None => &[],
         }
     }

@@ -75,7 +75,7 @@ impl StoredWorld<'_, '_> {
         ensures { let changed = with_parents (world_stored self.now).parents entity.now.uid entity.now.parents in
             IfOk result (λ yes. IsTrue yes ↔ IsOnCycle changed entity.now.uid) }
     {
-        let parents = entity.parents.as_slice();
+        let parents = entity.parents.members();
         match self.ancestors {
             Some(kept) => Ok(kept.would_cycle(&entity.uid, parents)),
             None => would_cycle(self.alloc, &self.searched, &entity.uid, parents),

@@ -27,7 +27,8 @@ use Rattle.site.specs.entity_hierarchy.Laws.{closed_world}
 use Rattle.site.specs.type_checker.FromSchemas.{typing_environment_of}
 use Rattle.site.specs.typing.Types
 use Rattle.site.specs.typing.Types.{StaticType, boolean_type, true_type}
-use Rattle.site.specs.typing.Environment.{Environment, attribute_may_be_missing}
+use Rattle.site.specs.typing.Environment.{Environment}
+use Rattle.site.specs.typing.declared.fault.TypeFault.TheVariants.{AttributeMayBeMissing}
 use Rattle.site.specs.typing.Gained.{Capability, CapabilityList}
 use Rattle.site.specs.typing.Literals.{UndecidedByLiterals}
 use Rattle.site.specs.typing.Literals
@@ -157,7 +158,7 @@ passes = record {
   typed = one_all (HasBooleanType (expression_of policy)) env (boolean_type, Types.is_either, (age_of_principal ∷ [], policy_typed));
 }
 
-aged_faulty : Faults env [] is_aged attribute_may_be_missing
+aged_faulty : Faults env [] is_aged AttributeMayBeMissing
 aged_faulty =
     Faults.fault_in_operand (Faults.of_binary binary.Less (form.Literal (literal.Long (pos 0))) (form.Field (form.Variable variable.Principal) (codes "age")) (unsettled _ _))
     (Faults.fault_later (Typing.types_literal (literal.Long (pos 0)))

@@ -10,9 +10,8 @@ use Rattle.site.specs.entity_hierarchy.Laws.{closed_world}
 use Rattle.site.specs.entities.Requests.{ParsesRequest}
 use Rattle.site.specs.type_checker.FromSchemas.{typing_environment_of}
 use Rattle.site.specs.typing.Example.{alice}
-use Rattle.site.specs.typing.Environment.{attribute_may_be_missing}
+use Rattle.site.specs.typing.declared.fault.TypeFault.TheVariants.{AttributeMayBeMissing}
 use Rattle.site.specs.typing.Conforming.{Conforms}
-use Rattle.site.specs.validator.Faults.{of_typing}
 use Rattle.site.specs.validator.Passing.{Passes, IsCheckRefused}
 use Rattle.site.specs.SoundWorlds.{AreRead}
 use Rattle.site_theorems.specs.Example.{schema_text, schema, viewing, entities, request_json, request, policy}
@@ -40,4 +39,4 @@ ExamplePolicyPasses = Passes schema policy
 
 -- `UnguardedAccessIsRejected`: the policy without this `has` is rejected, since the attribute may be missing.
 abbrev pub UnguardedAccessIsRejected : Type 0
-UnguardedAccessIsRejected = IsCheckRefused schema unsure_policy (of_typing attribute_may_be_missing)
+UnguardedAccessIsRejected = IsCheckRefused schema unsure_policy AttributeMayBeMissing

@@ -63,6 +63,15 @@ state_text label s = compact_text (state_json label s)
 unfoldable pub delta_text : List ℕ → Store → List ℕ
 delta_text label s = compact_text (delta_json label s)
 
+-- `updates_json label us` is the JSON of the updates `us`, in their order and with repeats, as a delta for the schema
+-- with the label `label`. That of a store's updates is the store's as a delta.
+abbrev pub updates_json : List ℕ → List Update → Data
+updates_json label us = message_json (codes "delta") label us
+
+-- `updates_text label us` is the text of `updates_json label us`: compact, keys ascending.
+unfoldable pub updates_text : List ℕ → List Update → List ℕ
+updates_text label us = compact_text (updates_json label us)
+
 -- ---- read
 
 -- `text_in d` is the body with the text of the string `d`, or `BadShape` if `d` is not a string.

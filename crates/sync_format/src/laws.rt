@@ -14,7 +14,7 @@ ghost use Rattle.sync_format.specs.declared.update.Update.{Update};
 ghost use Rattle.sync_format.specs.declared.bodies.BodyFault.TheVariants.{OtherName};
 ghost use Rattle.sync_format.specs.Bodies.{HasOutcome, BodiesHaveOneOutcome};
 ghost use Rattle.sync_format.specs.Messages.{state_json, delta_json, state_text, delta_text};
-ghost use Rattle.sync_format.specs.Messages.{is_kind, updates_in, updates_stated};
+ghost use Rattle.sync_format.specs.Messages.{is_kind, updates_in, updates_json, updates_stated, updates_text};
 ghost use Rattle.sync_format.specs.Numbered.{IsVersion1Message, numbered_message_json};
 ghost use Rattle.sync_format.specs.Texts.{AreTexts};
 ghost use Rattle.sync_format.specs.Updates.{AreInRange, AreValid, plain_updates};
@@ -30,7 +30,8 @@ use stamped_store::laws::site_names_are_recognized;
 /// If the names and stamps of the updates are in their ranges, the JSON of a state or delta is parsed as the updates
 /// that it was written from. If also the label and the strings of the updates are UTF-8, the text is parsed as these
 /// updates. If the same bytes are the states of two stores, or deltas with the entries of two stores, under one label,
-/// these stores are equal.
+/// these stores are equal. A list of updates is written and parsed as a delta is, in its order and with repeats; the
+/// list of a store's updates is written as the store's delta.
 pub fn messages_read_back()
     ensures states { (label : List ℕ) (s : Store) → AreInRange (updates s)
         → updates_in label (state_json label s) ≡ Ok (updates s) }
@@ -44,6 +45,9 @@ pub fn messages_read_back()
         → json_of bytes ≡ Some (state_json label t) → s ≡ t }
     ensures one_delta { (label bytes : List ℕ) (s t : Store) → json_of bytes ≡ Some (delta_json label s)
         → json_of bytes ≡ Some (delta_json label t) → s ≡ t }
+    ensures lists { (label : List ℕ) (us : List PlainUpdate) → AreInRange us
+        → updates_in label (updates_json label us) ≡ Ok us }
+    ensures stores { (label : List ℕ) (s : Store) → updates_text label (updates s) ≡ delta_text label s }
 {
     site_names_are_recognized();
     stamps_read_back();

@@ -18,6 +18,7 @@ mod summary_laws;
 mod summary_reading;
 mod summary_writing;
 mod update;
+mod update_writing;
 mod version;
 mod writing;
 
@@ -33,6 +34,7 @@ pub use summary_laws::{stamps_read_back, summaries_read_back};
 pub use summary_reading::{check_stamp, read_stamped, read_summary, read_version};
 pub use summary_writing::write_summary;
 pub use update::Update;
+pub use update_writing::write_updates;
 pub use version::MessageVersion;
 pub use writing::{write_delta, write_state};
 

@@ -5,13 +5,13 @@ ghost use Rattle.std.specs.declared.cmp.Ordering.{Ordering};
 ghost use Rattle.serde_json.specs.Data.{number, unsigned, string};
 ghost use Rattle.values.specs.declared.name.Name.{Name};
 ghost use Rattle.values.specs.Names.{name_cmp};
-ghost use Rattle.stamped_store.specs.Store.{id_name, entity_name};
+ghost use Rattle.stamped_store.specs.Store.{id_name, policy_name, entity_name};
 ghost use Rattle.sync_format.specs.Summaries.{name_json};
 ghost use Rattle.entity_uids.specs.Tokens.{AppendsMember};
 
 use entity_uids::write_uid;
 use json::Writer;
-use plain::NoMemory;
+use plain::{NoMemory, Text};
 use std::cmp::Ordering;
 use values::{EntityUid, Name};
 
@@ -58,21 +58,47 @@ pub trait Lent {
         ensures { OnOk result (AppendsMember out.old out.new (codes "name") (name_json (named self.now))) };
 }
 
+/// Compares a name with that of the policy `id`: returns `Less` if the name is less.
+fn compare_with_id(name: &Name, id: &str) -> Ordering
+    ensures { result ≡ name_cmp name.now (policy_name id.now) }
+{
+    match name {
+        Name::Policy(other) => other.as_str().cmp(id),
+        Name::Entity(_) => Ordering::Greater,
+    }
+}
+
+/// Writes the member `name` of an entry or a stamp of the policy `id`.
+fn write_id(out: &mut Writer, id: &str) -> Result<(), NoMemory>
+    ensures { OnOk result (AppendsMember out.old out.new (codes "name") (name_json (policy_name id.now))) }
+{
+    out.key("name")?;
+    out.begin_object()?;
+    write_text(out, "policy", id)?;
+    out.end_object()
+}
+
 impl Lent for String {
     ghost named = { id_name };
 
     fn compare(&self, other: &Name) -> Ordering {
-        match other {
-            Name::Policy(id) => id.as_str().cmp(self.as_str()),
-            Name::Entity(_) => Ordering::Greater,
-        }
+        compare_with_id(other, self.as_str())
     }
 
     fn write(&self, out: &mut Writer) -> Result<(), NoMemory> {
-        out.key("name")?;
-        out.begin_object()?;
-        write_text(out, "policy", self.as_str())?;
-        out.end_object()
+        write_id(out, self.as_str())
+    }
+}
+
+impl Lent for Text {
+    ghost named = { policy_name };
+
+    fn compare(&self, other: &Name) -> Ordering {
+        compare_with_id(other, self.as_str())
+    }
+
+    fn write(&self, out: &mut Writer) -> Result<(), NoMemory> {
+        write_id(out, self.as_str())
     }
 }
 

@@ -15,7 +15,7 @@ ghost use Rattle.sync_format.specs.Messages.{body_json, entry_json, message_json
 ghost use Rattle.sync_format.specs.Messages.{delta_json, delta_text, updates_stated};
 ghost use Rattle.sync_format.specs.Updates.{AreInRange};
 ghost use Rattle.sync_format.specs.inner.Walking.{IsFrom, IsWalked};
-ghost use Rattle.sync_format.specs.inner.Writing.{missing_json_by};
+ghost use Rattle.sync_format.specs.inner.Writing.{EndsMessage, missing_json_by};
 
 use crate::laws::messages_read_back;
 use crate::members::{Lent, write_number, write_text};
@@ -42,7 +42,11 @@ fn write_body<P>(out: &mut Writer, body: &Option<ReadText<P>>) -> Result<(), NoM
 }
 
 /// Writes an entry and its name as one object.
-fn write_entry<N: Lent, P>(out: &mut Writer, name: &N, entry: &Entry<P>) -> Result<(), NoMemory>
+pub(crate) fn write_entry<N: Lent, P>(
+    out: &mut Writer,
+    name: &N,
+    entry: &Entry<P>,
+) -> Result<(), NoMemory>
     ensures { OnOk result (AppendsValue out.old out.new (entry_json (N.named name.now, plain_entry entry.now))) }
 {
     out.begin_object()?;
@@ -140,6 +144,16 @@ fn write_entries<P: Drop, E: Drop>(
     out.end_array()
 }
 
+/// Writes the members of a message behind its entries, and closes the object.
+pub(crate) fn end_message(out: &mut Writer, kind: &str, label: &str) -> Result<(), NoMemory>
+    ensures { OnOk result (EndsMessage kind.now label.now out.old out.new) }
+{
+    write_text(out, "kind", kind)?;
+    write_text(out, "schema", label)?;
+    write_number(out, "version", 2)?;
+    out.end_object()
+}
+
 /// Writes the state or delta as an object, with the entries of the store whose names `known` lacks or has with a
 /// smaller stamp. The names of `known` ascend.
 fn write_whole<P: Drop, E: Drop>(
@@ -156,10 +170,7 @@ fn write_whole<P: Drop, E: Drop>(
     out.begin_object()?;
     out.key("entries")?;
     write_entries(out, store, known)?;
-    write_text(out, "kind", kind)?;
-    write_text(out, "schema", label)?;
-    write_number(out, "version", 2)?;
-    out.end_object()
+    end_message(out, kind, label)
 }
 
 /// Returns the state or delta as bytes: the entries of the store whose names `known` lacks or has with a smaller stamp.

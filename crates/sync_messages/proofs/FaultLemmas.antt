@@ -7,9 +7,9 @@ use Rattle.sync_format.specs.policy_grammar.declared.fault.ReadFault.TheVariants
 use Rattle.sync_format.specs.policy_grammar.Faults as grammar
 use Rattle.sync_format.specs.policy_grammar.PolicyText.{IsPolicyText, IsPolicyRefused}
 use Rattle.validator.specs.schema.Schemas.{StatedSchema}
-use Rattle.validator.specs.declared.fault.TypeFault.{TypeFault}
-use Rattle.validator.specs.declared.fault.TypeFault.TheVariants as check
-use Rattle.validator.specs.Faults as validation
+use Rattle.validator.specs.typing.declared.fault.TypeFault.{TypeFault}
+use Rattle.validator.specs.typing.declared.fault.TypeFault.TheVariants as check
+use Rattle.validator.specs.typing.Codes as validation
 use Rattle.validator.specs.Passing.{IsCheckRefused}
 use Rattle.sync_format.specs.declared.bodies.BodyFault.{BodyFault}
 use Rattle.sync_format.specs.declared.bodies.BodyFault.TheVariants as body

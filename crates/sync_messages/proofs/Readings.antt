@@ -8,8 +8,8 @@ use Rattle.sync_format.specs.policy_grammar.Faults as grammar
 use Rattle.sync_format.specs.policy_grammar.PolicyText.{IsPolicyText, IsPolicyRefused}
 use Rattle.sync_format.specs.policy_grammar.Unique.{HasOneReading}
 use Rattle.validator.specs.schema.Schemas.{StatedSchema}
-use Rattle.validator.specs.declared.fault.TypeFault.{TypeFault}
-use Rattle.validator.specs.Faults as validation
+use Rattle.validator.specs.typing.declared.fault.TypeFault.{TypeFault}
+use Rattle.validator.specs.typing.Codes as validation
 use Rattle.validator.specs.Passing.{Passes, IsCheckRefused}
 use Rattle.validator.specs.Outcomes.{PoliciesHaveOneOutcome, PassingIsNotRefused, CheckResult, IsCheckResult, passes}
 use Rattle.validator.specs.Outcomes.{refused}

@@ -19,8 +19,8 @@ use Rattle.validator.specs.entities.declared.fault.EntityFault.{EntityFault}
 use Rattle.validator.specs.entities.Faults as entities
 use Rattle.validator.specs.entities.Entities.{entity_stated_in}
 use Rattle.validator.specs.entities.Canonical.{canonical_text}
-use Rattle.validator.specs.declared.fault.TypeFault.{TypeFault}
-use Rattle.validator.specs.Faults as validation
+use Rattle.validator.specs.typing.declared.fault.TypeFault.{TypeFault}
+use Rattle.validator.specs.typing.Codes as validation
 use Rattle.validator.specs.Passing.{Passes, IsCheckRefused}
 use Rattle.sync_format.specs.declared.bodies.BodyFault.{BodyFault}
 use Rattle.sync_format.specs.declared.bodies.BodyFault.TheVariants.{Refused, OtherName}

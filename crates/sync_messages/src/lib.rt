@@ -14,7 +14,9 @@ pub use as_stated::{
     updates_are_read_as_stated,
 };
 pub use laws::{canonical_texts_are_read, states_read_back, stored_texts_have_one_reading};
-pub use messages::{read_message, read_summary, write_delta, write_state, write_summary};
+pub use messages::{
+    read_message, read_summary, write_delta, write_state, write_summary, write_updates,
+};
 pub use texts::SchemaTexts;
 
 // of this layer

@@ -8,7 +8,8 @@ ghost use Rattle.stamped_store.specs.Store.{abstract_store, updates};
 ghost use Rattle.sync_format.specs.declared.fault.MessageFault.TheVariants as MessageFault;
 ghost use Rattle.sync_format.specs.Messages.{state_json, state_text, delta_json, delta_text, updates_stated};
 ghost use Rattle.sync_format.specs.Summaries.{AreStamped, summary_stated, summary_text};
-ghost use Rattle.sync_format.specs.Updates.{AreInRange};
+ghost use Rattle.sync_format.specs.Messages.{updates_json, updates_text};
+ghost use Rattle.sync_format.specs.Updates.{AreInRange, plain_updates};
 ghost use Rattle.validator.specs.schema.Views.{schema_view};
 ghost use Rattle.sync_messages.specs.Messages.{IsMessageOf, IsMessageFaultOf};
 ghost use Rattle.sync_messages.specs.ReadBack.{HasValidUpdates, DescribesStore};
@@ -121,6 +122,29 @@ pub fn write_delta(
         ≡ Ok (updates (delta (abstract_store store.now) since.now))) }
 {
     sync_format::write_delta(alloc, schema.label(), store, since)
+}
+
+/// Returns a delta of the schema, compact, keys ascending: the updates, in their order and with repeats.
+///
+/// If the name and stamp of each update are in their ranges, the message describes these updates. Allocates only the
+/// returned bytes.
+///
+/// # Errors
+///
+/// - `NoMemory`: an allocation failed.
+pub fn write_updates<P: Drop, E: Drop>(
+    alloc: Global,
+    schema: &Schema,
+    updates: &[Update<P, E>],
+) -> Result<Vec<u8>, NoMemory>
+    ensures text { IfOk result
+        (λ b. b.items ≡ updates_text (schema_view schema.now).label (plain_updates updates.now)) }
+    ensures json { IfOk result
+        (λ b. json_of b.items ≡ Some (updates_json (schema_view schema.now).label (plain_updates updates.now))) }
+    ensures reads_back { IfOk result (λ b. AreInRange (plain_updates updates.now)
+        → updates_stated (schema_view schema.now).label b.items ≡ Ok (plain_updates updates.now)) }
+{
+    sync_format::write_updates(alloc, schema.label(), updates)
 }
 
 /// Returns the summary of a store, as a message of the schema: compact, keys and names ascending.

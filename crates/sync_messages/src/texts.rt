@@ -10,7 +10,7 @@ ghost use Rattle.sync_format.specs.policy_grammar.PolicyText.{IsPolicyText};
 ghost use Rattle.validator.specs.schema.Views.{schema_view};
 ghost use Rattle.validator.specs.entities.Entities.{entity_stated_in};
 ghost use Rattle.validator.specs.entities.Canonical.{canonical_text};
-ghost use Rattle.validator.specs.Faults as validation;
+ghost use Rattle.validator.specs.typing.Codes as validation;
 ghost use Rattle.validator.specs.Passing.{Passes};
 ghost use Rattle.plain.specs.AllocationErrors.{OrNoMemory};
 ghost use Rattle.sync_messages.specs.Texts.{ReadsPolicy, RefusesPolicy, RefusesEntity, entity_of_text, refused_by};

@@ -7,6 +7,7 @@ use crate::pieces::Line;
 use crate::ways::{PLAIN, SLOW, StreamSplit, by_reads, reader_of, writer_of};
 use crate::written::shown;
 use http::StatusCode;
+use http_streams::CommitFailed;
 use http_streams::laws::one_answer;
 use http_streams::serve::{StreamFault, serve};
 use http_streams::service::{Answers, Service};
@@ -59,6 +60,10 @@ impl Service for Counter {
     }
 
     fn put_refusal_line(_status: StatusCode, _line: &mut Vec<u8>) {}
+
+    fn commit(&mut self) -> Result<(), CommitFailed> {
+        Ok(())
+    }
 }
 
 /// Proves that the service has one answer to each request, except when out of memory. No-op.

@@ -4,7 +4,7 @@ ghost use Rattle.stamped_store.specs.Store.{Update, store_of, updates};
 ghost use Rattle.journal.specs.Lines.{IsLine};
 ghost use Rattle.test_journal.specs.Notes.{IsNotes, is_marked, marked, note, noted, one_list};
 
-use journal::{RecordFault, Replica};
+use journal::{Answering, RecordFault, Replica};
 use std::alloc::{AllocError, Global};
 
 /// The notes that were applied, in order, and those of them that have no record.
@@ -113,20 +113,9 @@ impl Replica for Notes {
 
     ghost checked = { is_marked };
 
-    ghost steps = { λ x s request us reply t. t ≡ store_of (updates s ++ us) };
-
     ghost records_are_checked = { λ x line us h. marked line us h };
 
-    ghost applied = { λ x s request us reply t h. h };
-
     ghost one_meaning = { λ x line us vs h k. one_list line us vs h k };
-
-    fn answer(&mut self, request: &[u8], reply: &mut Vec<u8>) {
-        reply.clear();
-        if put(self, request) {
-            let _ = reply.extend_from_slice(b"noted");
-        }
-    }
 
     fn put_entry(&mut self, entry: &mut Vec<u8>) -> Result<(), AllocError> {
         entry.clear();
@@ -159,6 +148,19 @@ impl Replica for Notes {
                 Err(_) => Err(RecordFault::NoMemory),
             },
             None => Err(RecordFault::NoRecord),
+        }
+    }
+}
+
+impl Answering for Notes {
+    ghost steps = { λ x s request us reply t. t ≡ store_of (updates s ++ us) };
+
+    ghost applied = { λ x s request us reply t h. h };
+
+    fn answer(&mut self, request: &[u8], reply: &mut Vec<u8>) {
+        reply.clear();
+        if put(self, request) {
+            let _ = reply.extend_from_slice(b"noted");
         }
     }
 }

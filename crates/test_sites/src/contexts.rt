@@ -2,10 +2,10 @@
 use crate::line::{BAD_ROW, Line, NO_MEMORY};
 use crate::replies::push_fault;
 use crate::written::{expanded_text, first_word};
-use entities::{Entity, EntityFault, Schema, canonical_text, read_context};
+use entities::{Entity, EntityFault, Schema, UidSet, canonical_text, read_context};
 use http_service::SiteFault;
 use json_words::read_json;
-use plain::{Items, NoMemory, Shared, pair_with};
+use plain::{NoMemory, Shared, pair_with};
 use std::alloc::Global;
 use values::{EntityUid, Record, SharedText, TypeName};
 
@@ -48,16 +48,18 @@ fn push_entity(alloc: Global, line: &mut Line, entity: &Entity) {
 
 /// Appends a context as the attributes of its action.
 fn push_attrs(alloc: Global, line: &mut Line, uid: EntityUid, attrs: Record) {
-    let parents = Items::new(alloc);
-    push_entity(
-        alloc,
-        line,
-        &Entity {
-            uid,
-            attrs,
-            parents,
-        },
-    );
+    match UidSet::new(Vec::new(alloc)) {
+        Ok(parents) => push_entity(
+            alloc,
+            line,
+            &Entity {
+                uid,
+                attrs,
+                parents,
+            },
+        ),
+        Err(_) => line.push(NO_MEMORY),
+    }
 }
 
 /// Appends the context that JSON describes for an action, or the error of the JSON.

@@ -1,12 +1,14 @@
 //! Replies as a case prints them.
 use crate::line::{Line, NO_MEMORY};
-use http_service::{Answer, Found, Put, Reply, Site, SiteFault, Stamp, Taken, answer_line};
+use http_service::{
+    Answer, Found, Place, Put, Reply, Site, SiteFault, Stamp, Taken, answer_line, fault_place,
+};
 use std::alloc::Global;
 
 /// Appends the place of an error, or `-` without one.
-fn push_place(line: &mut Line, place: Option<usize>) {
+fn push_place(line: &mut Line, place: Option<Place>) {
     match place {
-        Some(place) => line.push_number(place as u64),
+        Some(place) => line.push_number(place.number() as u64),
         None => line.push(b"-"),
     }
 }
@@ -20,7 +22,7 @@ fn push_within(line: &mut Line, within: Option<u8>) {
 }
 
 /// Appends an error: its code, its place, and the code of its inner error.
-fn push_error(line: &mut Line, code: u8, place: Option<usize>, within: Option<u8>) {
+fn push_error(line: &mut Line, code: u8, place: Option<Place>, within: Option<u8>) {
     line.push(b"refused ");
     line.push_number(u64::from(code));
     line.push(b" ");
@@ -34,7 +36,7 @@ pub(crate) fn push_fault(line: &mut Line, fault: SiteFault) {
     if line.has_messages() {
         return line.push_shown(&fault);
     }
-    push_error(line, fault.code(), fault.place(), fault.within());
+    push_error(line, fault.code(), fault_place(fault), fault.within());
 }
 
 /// Appends a stamp.
@@ -62,7 +64,7 @@ fn push_taken(line: &mut Line, taken: Taken) {
             line.push(b"taken ");
             line.push_number(count as u64);
         }
-        Taken::Short(count) => push_error(line, 1, Some(count), None),
+        Taken::Short(count) => push_error(line, 1, Some(Place::Taken(count)), None),
     }
 }
 

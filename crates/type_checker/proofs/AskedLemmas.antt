@@ -11,14 +11,15 @@ use Rattle.grammar_core.specs.declared.expr.Expr.TheVariants as form
 use Rattle.grammar_core.specs.declared.expr.Expr.TheViews.{out-Expr}
 use Rattle.grammar_core.specs.declared.expr.Expr.TheOpen.{Expr-F}
 use Rattle.typing.specs.Types as types
-use Rattle.typing.specs.Environment.{Environment, unexpected}
+use Rattle.typing.specs.Environment.{Environment}
+use Rattle.typing.specs.declared.fault.TypeFault.TheVariants.{Unexpected}
 use Rattle.typing.specs.Gained.{CapabilityList}
 use Rattle.typing.specs.Rows.{Row, MayBeTrue, unary_type}
 use Rattle.typing.specs.Typing as typing
 use Rattle.typing.specs.Typing.{Types}
 use Rattle.typing.specs.Faults.{Faults}
-use Rattle.type_checker.specs.Views.{static_view, fault_view}
-use Rattle.type_checker.specs.declared.fault.ExpressionFault.{ExpressionFault}
+use Rattle.type_checker.specs.Views.{static_view}
+use Rattle.typing.specs.declared.fault.TypeFault.{TypeFault}
 use Rattle.type_checker.specs.declared.typed.Typed.{Typed}
 use Rattle.type_capabilities.specs.CapabilityList.{capabilities}
 use Rattle.type_checker.specs.inner.Judged.{Judged, JudgedUnder}
@@ -75,7 +76,7 @@ abbrev one_row : types.StaticType → Row
 one_row t = Ok t
 
 abbrev no_row : Row
-no_row = Err unexpected
+no_row = Err Unexpected
 
 -- ---- a test for the type n that may be true is True, and its operand is of that type
 
@@ -114,12 +115,12 @@ module _ (env : Environment) (K : CapabilityList) (n : List ℕ) (x : Expr) wher
 -- ---- the right behind it
 
 -- the same where nothing more is known
-pub behind_nothing : (env : Environment) (K after : CapabilityList) (b : Expr) (r : Result Typed ExpressionFault) → Judged env K b r after
+pub behind_nothing : (env : Environment) (K after : CapabilityList) (b : Expr) (r : Result Typed TypeFault) → Judged env K b r after
     → JudgedUnder env K [] b r after
 behind_nothing env K after b (Ok t) h =
     let L = capabilities t.gains.items in
     (h.0, (L, subst (λ M. Types env M b (static_view t.kind) L) (sym (append-nil K)) h.1, refl))
-behind_nothing env K after b (Err f) h = λ n. subst (λ M. Faults env M b (fault_view f)) (sym (append-nil K)) (h n)
+behind_nothing env K after b (Err f) h = λ n. subst (λ M. Faults env M b f) (sym (append-nil K)) (h n)
 
 -- what `&&` needs of a left that asks of the operand of its right
 pub record AskedSo (env : Environment) (K mid : CapabilityList) (a x : Expr) (n : List ℕ) : Type 0 where
@@ -128,7 +129,7 @@ pub record AskedSo (env : Environment) (K mid : CapabilityList) (a x : Expr) (n 
   pub learned : CapabilityList
   pub has_type : Types env K x (types.entity_type n) learned
 
-pub asked_so : (env : Environment) (K mid : CapabilityList) (a x : Expr) (n : List ℕ) (r : Result Typed ExpressionFault)
+pub asked_so : (env : Environment) (K mid : CapabilityList) (a x : Expr) (n : List ℕ) (r : Result Typed TypeFault)
     → a ≡ form.Unary (Is n) x → MayBeTrueResult r → Judged env K a r mid → AskedSo env K mid a x n
 asked_so env K mid a x n (Ok t) e m h =
     let L = capabilities t.gains.items in

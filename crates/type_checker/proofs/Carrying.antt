@@ -1,6 +1,6 @@
 -- What is judged of a form, by what is judged of its operands.
 use Rattle.std.proofs.Common.{◌≡◌, ◌≢◌, ◌⊎◌, ◌++◌, List, [], map, Result, Ok, Err, Option, Some, None, refl, sym, subst}
-use Rattle.std.proofs.Common.{ap, inl, inr}
+use Rattle.std.proofs.Common.{inl, inr}
 use Rattle.std.specs.Prelude.{Vec, IfOk, MatchResult}
 use Rattle.std.specs.Option.{option_map}
 use Rattle.std.specs.declared.alloc.Global.{Global}
@@ -9,7 +9,6 @@ use Rattle.grammar_core.specs.declared.expr.Expr.{Expr}
 use Rattle.grammar_core.specs.declared.expr.Expr.TheVariants as form
 use Rattle.typing.specs.evaluator.Operators.{TakesAddress}
 use Rattle.typing.specs.Types as types
-use Rattle.typing.specs.Environment as environment
 use Rattle.typing.specs.Environment.{Environment}
 use Rattle.typing.specs.Gained as gained
 use Rattle.typing.specs.Gained.{CapabilityList, has_gains}
@@ -20,12 +19,13 @@ use Rattle.typing.specs.Typing as typing
 use Rattle.typing.specs.Typing.{Types, TypesEach}
 use Rattle.typing.specs.Faults as faults
 use Rattle.typing.specs.Faults.{Faults, FaultsEach}
-use Rattle.type_checker.specs.Views.{static_view, boolean_view, fault_view, Answers}
+use Rattle.type_checker.specs.Views.{static_view, boolean_view, Answers}
 use Rattle.type_checker.specs.declared.static_type.StaticType.{StaticType}
 use Rattle.type_checker.specs.declared.static_type.BooleanType.{BooleanType}
 use Rattle.type_checker.specs.declared.static_type.BooleanType.TheVariants as truth
-use Rattle.type_checker.specs.declared.fault.ExpressionFault.{ExpressionFault}
-use Rattle.type_checker.specs.declared.fault.ExpressionFault.TheVariants.{NoMemory, NoCommonType}
+use Rattle.typing.specs.declared.fault.TypeFault.{TypeFault}
+use Rattle.typing.specs.declared.fault.TypeFault.TheVariants as fault
+use Rattle.typing.specs.declared.fault.TypeFault.TheVariants.{NoMemory, NoCommonType}
 use Rattle.type_checker.specs.declared.typed.Typed.{Typed}
 use Rattle.type_checker.specs.declared.typed.Then.{Then}
 use Rattle.type_checker.specs.declared.typed.Then.TheVariants as then
@@ -46,48 +46,48 @@ boolean_so b e = subst types.IsBoolean (sym e) (is_boolean_view b)
 abbrev CommonIs : {B : Type 0} → Typed → Typed → Result (Option StaticType) B → Type 0
 CommonIs s t r = IfOk r (λ o. option_map static_view o ≡ types.common (static_view s.kind) (static_view t.kind))
 
-abbrev KindOf : {B : Type 0} → Result (Option StaticType) B → Result StaticType ExpressionFault → Type 0
+abbrev KindOf : {B : Type 0} → Result (Option StaticType) B → Result StaticType TypeFault → Type 0
 KindOf joined kind = MatchResult kind (λ t. joined ≡ Ok (Some t)) (λ f. f ≢ NoMemory → (f ≡ NoCommonType) × (joined ≡ Ok None))
 
 module _ (env : Environment) (K after : CapabilityList) where
-  pub typed_so : (a : Expr) {r : Result Typed ExpressionFault} {t : Typed} → r ≡ Ok t → Judged env K a r after
+  pub typed_so : (a : Expr) {r : Result Typed TypeFault} {t : Typed} → r ≡ Ok t → Judged env K a r after
       → (after ≡ K) × Types env K a (static_view t.kind) (capabilities t.gains.items)
   typed_so a e h = subst (λ r. Judged env K a r after) e h
 
   -- the same, of a kind that is told
-  pub has_kind : (a : Expr) {r : Result Typed ExpressionFault} {t : Typed} {s : types.StaticType} → r ≡ Ok t → static_view t.kind ≡ s
+  pub has_kind : (a : Expr) {r : Result Typed TypeFault} {t : Typed} {s : types.StaticType} → r ≡ Ok t → static_view t.kind ≡ s
       → Judged env K a r after → (after ≡ K) × Types env K a s (capabilities t.gains.items)
   has_kind a {t} e k h =
       let g = typed_so a e h in
       (g.0, subst (λ s. Types env K a s (capabilities t.gains.items)) k g.1)
 
-  pub faulty_so : (a : Expr) {r : Result Typed ExpressionFault} {f : ExpressionFault} → r ≡ Err f → Judged env K a r after
-      → f ≢ NoMemory → Faults env K a (fault_view f)
+  pub faulty_so : (a : Expr) {r : Result Typed TypeFault} {f : TypeFault} → r ≡ Err f → Judged env K a r after
+      → f ≢ NoMemory → Faults env K a f
   faulty_so a e h = subst (λ r. Judged env K a r after) e h
 
-  pub behind_so : (L : CapabilityList) (a : Expr) {r : Result Typed ExpressionFault} {t : Typed} → r ≡ Ok t
+  pub behind_so : (L : CapabilityList) (a : Expr) {r : Result Typed TypeFault} {t : Typed} → r ≡ Ok t
       → JudgedUnder env K L a r after
       → (after ≡ K) × ((M : CapabilityList) × Types env (K ++ L) a (static_view t.kind) M × (capabilities t.gains.items ≡ L ++ M))
   behind_so L a e h = subst (λ r. JudgedUnder env K L a r after) e h
 
-  pub behind_faulty : (L : CapabilityList) (a : Expr) {r : Result Typed ExpressionFault} {f : ExpressionFault} → r ≡ Err f
-      → JudgedUnder env K L a r after → f ≢ NoMemory → Faults env (K ++ L) a (fault_view f)
+  pub behind_faulty : (L : CapabilityList) (a : Expr) {r : Result Typed TypeFault} {f : TypeFault} → r ≡ Err f
+      → JudgedUnder env K L a r after → f ≢ NoMemory → Faults env (K ++ L) a f
   behind_faulty L a e h = subst (λ r. JudgedUnder env K L a r after) e h
 
-  pub each_so : (xs : List Expr) {r : Result (Vec StaticType Global) ExpressionFault} {ts : Vec StaticType Global} → r ≡ Ok ts
+  pub each_so : (xs : List Expr) {r : Result (Vec StaticType Global) TypeFault} {ts : Vec StaticType Global} → r ≡ Ok ts
       → JudgedEach env K xs r after → (after ≡ K) × TypesEach env K xs (map static_view ts.items)
   each_so xs e h = subst (λ r. JudgedEach env K xs r after) e h
 
-  pub members_so : (xs : List Expr) {r : Result (Vec StaticType Global) ExpressionFault} {ts : Vec StaticType Global} → r ≡ Ok ts
+  pub members_so : (xs : List Expr) {r : Result (Vec StaticType Global) TypeFault} {ts : Vec StaticType Global} → r ≡ Ok ts
       → JudgedMembers env K xs r after → (after ≡ K) × MembersHave env K xs (map static_view ts.items)
   members_so xs e h = subst (λ r. JudgedMembers env K xs r after) e h
 
-  pub members_faulty : (xs : List Expr) {r : Result (Vec StaticType Global) ExpressionFault} {f : ExpressionFault} → r ≡ Err f
-      → JudgedMembers env K xs r after → f ≢ NoMemory → FaultsEach env K xs (fault_view f)
+  pub members_faulty : (xs : List Expr) {r : Result (Vec StaticType Global) TypeFault} {f : TypeFault} → r ≡ Err f
+      → JudgedMembers env K xs r after → f ≢ NoMemory → FaultsEach env K xs f
   members_faulty xs e h = subst (λ r. JudgedMembers env K xs r after) e h
 
-  pub each_faulty : (xs : List Expr) {r : Result (Vec StaticType Global) ExpressionFault} {f : ExpressionFault} → r ≡ Err f
-      → JudgedEach env K xs r after → f ≢ NoMemory → FaultsEach env K xs (fault_view f)
+  pub each_faulty : (xs : List Expr) {r : Result (Vec StaticType Global) TypeFault} {f : TypeFault} → r ≡ Err f
+      → JudgedEach env K xs r after → f ≢ NoMemory → FaultsEach env K xs f
   each_faulty xs e h = subst (λ r. JudgedEach env K xs r after) e h
 
   -- a type that learns nothing
@@ -97,20 +97,20 @@ module _ (env : Environment) (K after : CapabilityList) where
       (same, subst (λ u. Types env K x u (capabilities p.gains.items)) (sym e) (subst (λ ps. Types env K x t (capabilities ps)) (sym l) h))
 
   -- a row's type or fault
-  pub row_judged : (x : Expr) (j : Row) (row : Result StaticType ExpressionFault) (r : Result Typed ExpressionFault)
+  pub row_judged : (x : Expr) (j : Row) (row : Result StaticType TypeFault) (r : Result Typed TypeFault)
       → Answers row j → IsRow row r → after ≡ K → ((t : types.StaticType) → j ≡ Ok t → Types env K x t [])
-      → ((n : environment.ExpressionFault) → j ≡ Err n → Faults env K x n) → Judged env K x r after
+      → ((n : TypeFault) → j ≡ Err n → Faults env K x n) → Judged env K x r after
   row_judged x j row (Ok t) a (e, l) same f g =
       plain_judged x t refl l same (f (static_view t.kind) (subst (λ q. Answers q j) e a))
-  row_judged x j row (Err n) a e same f g = λ h. g (fault_view n) (subst (λ q. Answers q j) e a h)
+  row_judged x j row (Err n) a e same f g = λ h. g n (subst (λ q. Answers q j) e a h)
 
-  pub has_judged : (x : Expr) (p : gained.Capability) (j : Row) (row : Result StaticType ExpressionFault)
-      (r : Result Typed ExpressionFault) → Answers row j → IsHasRow p row r → after ≡ K
+  pub has_judged : (x : Expr) (p : gained.Capability) (j : Row) (row : Result StaticType TypeFault)
+      (r : Result Typed TypeFault) → Answers row j → IsHasRow p row r → after ≡ K
       → ((t : types.StaticType) → j ≡ Ok t → Types env K x t (has_gains t p))
-      → ((n : environment.ExpressionFault) → j ≡ Err n → Faults env K x n) → Judged env K x r after
+      → ((n : TypeFault) → j ≡ Err n → Faults env K x n) → Judged env K x r after
   has_judged x p j row (Ok t) a (e, l) same f g =
       (same, subst (λ L. Types env K x (static_view t.kind) L) (sym l) (f (static_view t.kind) (subst (λ q. Answers q j) e a)))
-  has_judged x p j row (Err n) a e same f g = λ h. g (fault_view n) (subst (λ q. Answers q j) (e h) a h)
+  has_judged x p j row (Err n) a e same f g = λ h. g n (subst (λ q. Answers q j) (e h) a h)
 
   -- a call with one operand
   call_typed : (called : UnaryCall) (a : Expr) {s t : types.StaticType} {L : CapabilityList} → Types env K a s L
@@ -119,22 +119,22 @@ module _ (env : Environment) (K after : CapabilityList) where
   call_typed called a h (inl g) = typing.types_literal_call called a h g
   call_typed called a h (inr g) = typing.types_address_test called a g.0 h g.1
 
-  call_faulty : (called : UnaryCall) (a : Expr) {s : types.StaticType} {L : CapabilityList} (n : environment.ExpressionFault)
+  call_faulty : (called : UnaryCall) (a : Expr) {s : types.StaticType} {L : CapabilityList} (n : TypeFault)
       → Types env K a s L
-      → (TakesText called × ((t : types.StaticType) → ¬ ReadsLiteral called a t) × (n ≡ environment.bad_extension_literal))
+      → (TakesText called × ((t : types.StaticType) → ¬ ReadsLiteral called a t) × (n ≡ fault.BadExtensionLiteral))
       ⊎ (TakesAddress called × (rows.address_test_type s ≡ Err n))
       → Faults env K (form.UnaryCall called a) n
   call_faulty called a n h (inl g) =
       subst (λ m. Faults env K (form.UnaryCall called a) m) (sym g.2) (faults.no_literal called a g.0 h g.1)
   call_faulty called a n h (inr g) = faults.fault_of_address_test called a g.0 h g.1
 
-  pub call_judged : (called : UnaryCall) (a : Expr) (s : types.StaticType) (L : CapabilityList) (row : Result StaticType ExpressionFault)
-      (r : Result Typed ExpressionFault) → CallTyped called a s row → IsRow row r → after ≡ K → Types env K a s L
+  pub call_judged : (called : UnaryCall) (a : Expr) (s : types.StaticType) (L : CapabilityList) (row : Result StaticType TypeFault)
+      (r : Result Typed TypeFault) → CallTyped called a s row → IsRow row r → after ≡ K → Types env K a s L
       → Judged env K (form.UnaryCall called a) r after
   call_judged called a s L row (Ok t) c (e, l) same h =
       plain_judged (form.UnaryCall called a) t refl l same (call_typed called a h (subst (λ q. CallTyped called a s q) e c))
   call_judged called a s L row (Err n) c e same h =
-      λ m. call_faulty called a (fault_view n) h (subst (λ q. CallTyped called a s q) e c m)
+      λ m. call_faulty called a n h (subst (λ q. CallTyped called a s q) e c m)
 
   -- `&&`, whose right is a boolean
   pub and_judged : (a b : Expr) {s t u : types.StaticType} {L M N : CapabilityList} → Types env K a s L → rows.MayBeTrue s
@@ -161,7 +161,7 @@ module _ (env : Environment) (K after : CapabilityList) where
 
   -- `if` behind both branches
   pub branches_judged : {B : Type 0} (a b x : Expr) (then_is other : Typed) (joined : Result (Option StaticType) B)
-      (kind : Result StaticType ExpressionFault) (r : Result Typed ExpressionFault) → ThenTyped env K a b types.boolean_type then_is
+      (kind : Result StaticType TypeFault) (r : Result Typed TypeFault) → ThenTyped env K a b types.boolean_type then_is
       → Types env K x (static_view other.kind) (capabilities other.gains.items)
       → IfOk joined (λ o. option_map static_view o ≡ types.common (static_view then_is.kind) (static_view other.kind))
       → MatchResult kind (λ t. joined ≡ Ok (Some t)) (λ f. f ≢ NoMemory → (f ≡ NoCommonType) × (joined ≡ Ok None))
@@ -174,7 +174,7 @@ module _ (env : Environment) (K after : CapabilityList) where
   branches_judged {B} a b x then_is other joined kind (Err f) h g c k e same = λ n.
       let none = subst (λ q. KindOf joined q) (e n) k n in
       let differ = subst (λ q. CommonIs then_is other q) none.1 c in
-      subst (λ m. Faults env K (form.If a b x) m) (ap fault_view (sym none.0)) (faults.branches_differ a b x h.2 h.3 g (sym differ))
+      subst (λ m. Faults env K (form.If a b x) m) (sym none.0) (faults.branches_differ a b x h.2 h.3 g (sym differ))
 
 -- a boolean that is not True nor Bool
 pub false_so : (b : BooleanType) → ¬ rows.MayBeTrue (boolean_view b) → boolean_view b ≡ types.false_type
@@ -188,30 +188,30 @@ none_learned t p n = refl
 
 -- the same of the pairs that were known before
 
-pub moved : (env : Environment) (x : Expr) (after : CapabilityList) (r : Result Typed ExpressionFault) {K M : CapabilityList} → M ≡ K
+pub moved : (env : Environment) (x : Expr) (after : CapabilityList) (r : Result Typed TypeFault) {K M : CapabilityList} → M ≡ K
     → Judged env M x r after → Judged env K x r after
 moved env x after r e h = subst (λ N. Judged env N x r after) e h
 
-pub behind_moved : (env : Environment) (x : Expr) (L after : CapabilityList) (r : Result Typed ExpressionFault) {K M : CapabilityList} → M ≡ K
+pub behind_moved : (env : Environment) (x : Expr) (L after : CapabilityList) (r : Result Typed TypeFault) {K M : CapabilityList} → M ≡ K
     → JudgedUnder env M L x r after → JudgedUnder env K L x r after
 behind_moved env x L after r e h = subst (λ N. JudgedUnder env N L x r after) e h
 
 -- of an expression that is this form
-pub at_form : (env : Environment) (K after : CapabilityList) (r : Result Typed ExpressionFault) {x y : Expr} → x ≡ y
+pub at_form : (env : Environment) (K after : CapabilityList) (r : Result Typed TypeFault) {x y : Expr} → x ≡ y
     → Judged env K y r after → Judged env K x r after
 at_form env K after r e h = subst (λ z. Judged env K z r after) (sym e) h
 
 -- `if` behind its test
 
-pub then_so : (env : Environment) (K after : CapabilityList) (a b : Expr) {r : Result Then ExpressionFault} {t : Then} → r ≡ Ok t
+pub then_so : (env : Environment) (K after : CapabilityList) (a b : Expr) {r : Result Then TypeFault} {t : Then} → r ≡ Ok t
     → ThenJudged env K a b r after → (after ≡ K) × ThenIs env K a b t
 then_so env K after a b e h = subst (λ r. ThenJudged env K a b r after) e h
 
-pub then_faulty : (env : Environment) (K after : CapabilityList) (a b : Expr) {r : Result Then ExpressionFault} {f : ExpressionFault} → r ≡ Err f
-    → ThenJudged env K a b r after → f ≢ NoMemory → (c : Expr) → Faults env K (form.If a b c) (fault_view f)
+pub then_faulty : (env : Environment) (K after : CapabilityList) (a b : Expr) {r : Result Then TypeFault} {f : TypeFault} → r ≡ Err f
+    → ThenJudged env K a b r after → f ≢ NoMemory → (c : Expr) → Faults env K (form.If a b c) f
 then_faulty env K after a b e h = subst (λ r. ThenJudged env K a b r after) e h
 
-pub then_only : (env : Environment) (K L after : CapabilityList) (a b : Expr) (j : Result Typed ExpressionFault) (r : Result Then ExpressionFault)
+pub then_only : (env : Environment) (K L after : CapabilityList) (a b : Expr) (j : Result Typed TypeFault) (r : Result Then TypeFault)
     → IsBranch (λ t. then.Only t) j r → Types env K a types.true_type L → JudgedUnder env K L b j after
     → ThenJudged env K a b r after
 then_only env K L after a b j (Ok t) (u, e, f) h g =
@@ -219,7 +219,7 @@ then_only env K L after a b j (Ok t) (u, e, f) h g =
     (s.0, subst (ThenIs env K a b) (sym f) (L, s.1.0, h, s.1.1, s.1.2))
 then_only env K L after a b j (Err f) e h g = λ n c. faults.fault_in_then a b c h rows.surely (behind_faulty env K after L b e g n)
 
-pub then_both : (env : Environment) (K L after : CapabilityList) (a b : Expr) (j : Result Typed ExpressionFault) (r : Result Then ExpressionFault)
+pub then_both : (env : Environment) (K L after : CapabilityList) (a b : Expr) (j : Result Typed TypeFault) (r : Result Then TypeFault)
     → IsBranch (λ t. then.Both t) j r → Types env K a types.boolean_type L → JudgedUnder env K L b j after
     → ThenJudged env K a b r after
 then_both env K L after a b j (Ok t) (u, e, f) h g =
@@ -227,7 +227,7 @@ then_both env K L after a b j (Ok t) (u, e, f) h g =
     (s.0, subst (ThenIs env K a b) (sym f) (L, s.1.0, h, s.1.1, s.1.2))
 then_both env K L after a b j (Err f) e h g = λ n c. faults.fault_in_then a b c h rows.perhaps (behind_faulty env K after L b e g n)
 
-pub else_only : (env : Environment) (K L after : CapabilityList) (a b c : Expr) (r : Result Typed ExpressionFault)
+pub else_only : (env : Environment) (K L after : CapabilityList) (a b c : Expr) (r : Result Typed TypeFault)
     → Types env K a types.false_type L → Judged env K c r after → Judged env K (form.If a b c) r after
 else_only env K L after a b c (Ok t) h g = (g.0, typing.if_of_false a b c h g.1)
 else_only env K L after a b c (Err f) h g = λ n. faults.fault_in_only_else a b c h (g n)

@@ -4,7 +4,6 @@ use Rattle.std.proofs.Common.{sym, subst, ap, ◌∙◌}
 use Rattle.std.proofs.lemmas.List.{drop_more, take_more, take-append-drop, map-append}
 use Rattle.grammar_core.specs.declared.expr.Expr.{Expr}
 use Rattle.typing.specs.Types as types
-use Rattle.typing.specs.Environment as environment
 use Rattle.typing.specs.Environment.{Environment}
 use Rattle.typing.specs.Gained.{CapabilityList}
 use Rattle.typing.specs.Typing as typing
@@ -13,7 +12,7 @@ use Rattle.typing.specs.Faults as faults
 use Rattle.typing.specs.Faults.{Faults, FaultsEach}
 use Rattle.type_checker.specs.Views.{static_view}
 use Rattle.type_checker.specs.declared.static_type.StaticType.{StaticType}
-use Rattle.type_checker.specs.declared.fault.ExpressionFault.{ExpressionFault}
+use Rattle.typing.specs.declared.fault.TypeFault.{TypeFault}
 use Rattle.type_capabilities.specs.declared.capability.Capability.{Capability}
 use Rattle.type_checker.specs.declared.typed.Typed.{Typed}
 use Rattle.type_capabilities.specs.CapabilityList.{capability_of, capabilities}
@@ -47,7 +46,7 @@ module _ (env : Environment) (K : CapabilityList) where
   each_more typing.types_none h = typing.types_more h typing.types_none
   each_more (typing.types_more g gs) h = typing.types_more g (each_more gs h)
 
-  pub each_stops : {xs : List Expr} {ts : List types.StaticType} {x : Expr} {n : environment.ExpressionFault} (ys : List Expr)
+  pub each_stops : {xs : List Expr} {ts : List types.StaticType} {x : Expr} {n : TypeFault} (ys : List Expr)
       → TypesEach env K xs ts → Faults env K x n → FaultsEach env K (xs ++ x ∷ ys) n
   each_stops ys typing.types_none h = faults.fault_here h
   each_stops ys (typing.types_more g gs) h = faults.fault_later g (each_stops ys gs h)
@@ -59,7 +58,7 @@ module _ (env : Environment) (K : CapabilityList) where
 
   -- the first of several that has no type stands at this place
   pub stops_at : {X : Type 0} (value : X → Expr) (xs : List X) (i : ℕ) (x : X) (ts : List types.StaticType)
-      (n : environment.ExpressionFault) → StandsAt xs i x → TypesEach env K (map value (take i xs)) ts
+      (n : TypeFault) → StandsAt xs i x → TypesEach env K (map value (take i xs)) ts
       → Faults env K (value x) n → FaultsEach env K (map value xs) n
   stops_at value xs i x ts n at g h =
       subst (λ ys. FaultsEach env K ys n)
@@ -76,7 +75,7 @@ module _ (env : Environment) (K : CapabilityList) where
       (sym (map-append value (take i xs) (x ∷ [])) ∙ ap (map value) (with_it xs i x at)) (each_more g h))
 
 -- one behind pairs that were put on top of those that were known
-pub behind_judged : (env : Environment) (x : Expr) (K : CapabilityList) (ls : List Capability) (M : CapabilityList) (typed r : Result Typed ExpressionFault)
+pub behind_judged : (env : Environment) (x : Expr) (K : CapabilityList) (ls : List Capability) (M : CapabilityList) (typed r : Result Typed TypeFault)
     → Judged env (K ++ capabilities ls) x typed M → AddsGained ls typed r
     → JudgedUnder env K (capabilities ls) x r (take (length K) M)
 behind_judged env x K ls M typed (Ok t) h (u, e, k, l) =

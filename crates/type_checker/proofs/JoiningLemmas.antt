@@ -8,7 +8,7 @@ use Rattle.grammar_core.specs.declared.expr.Expr.{Expr}
 use Rattle.grammar_core.specs.declared.expr.Expr.TheVariants as form
 use Rattle.typing.specs.Types as types
 use Rattle.typing.specs.Types.{IsBoolean}
-use Rattle.typing.specs.Environment.{Environment, unexpected}
+use Rattle.typing.specs.Environment.{Environment}
 use Rattle.typing.specs.Gained.{CapabilityList}
 use Rattle.typing.specs.Rows.{and_type, MayBeTrue}
 use Rattle.typing.specs.Rows as rows
@@ -16,9 +16,9 @@ use Rattle.typing.specs.Typing as typing
 use Rattle.typing.specs.Typing.{Types}
 use Rattle.typing.specs.Faults as faults
 use Rattle.typing.specs.Faults.{Faults}
-use Rattle.type_checker.specs.Views.{boolean_view, static_view, fault_view}
-use Rattle.type_checker.specs.declared.fault.ExpressionFault as fault
-use Rattle.type_checker.specs.declared.fault.ExpressionFault.TheVariants.{NoMemory, Unexpected}
+use Rattle.type_checker.specs.Views.{boolean_view, static_view}
+use Rattle.typing.specs.declared.fault.TypeFault.{TypeFault}
+use Rattle.typing.specs.declared.fault.TypeFault.TheVariants.{NoMemory, Unexpected}
 use Rattle.type_checker.specs.declared.static_type.BooleanType.{BooleanType}
 use Rattle.type_checker.specs.declared.static_type.StaticType.{StaticType}
 use Rattle.type_checker.specs.declared.typed.Typed.{Typed}
@@ -66,7 +66,7 @@ module _ (env : Environment) where
       → Leads env (Some (and_so_far s t)) (K ++ L) y whole
   leads_on None K L x y whole t h g m = record {
     types = on_types;
-    no_side = λ u M k n. h.faults unexpected (faults.right_of_and_no_boolean x y g m k (λ i. n (joining.behind i)));
+    no_side = λ u M k n. h.faults Unexpected (faults.right_of_and_no_boolean x y g m k (λ i. n (joining.behind i)));
     faults = λ n k. h.faults n (faults.fault_right_of_and x y g m k);
   }
     where
@@ -75,7 +75,7 @@ module _ (env : Environment) where
       on_types u M k (joining.behind i) = h.types (and_type t u) (L ++ M) (typing.and_of_both x y g m k i) joining.alone
   leads_on (Some s) K L x y whole t h g m = record {
     types = on_types;
-    no_side = λ u M k n. h.faults unexpected (faults.right_of_and_no_boolean x y g m k (λ i. n (joining.behind i)));
+    no_side = λ u M k n. h.faults Unexpected (faults.right_of_and_no_boolean x y g m k (λ i. n (joining.behind i)));
     faults = λ n k. h.faults n (faults.fault_right_of_and x y g m k);
   }
     where
@@ -94,11 +94,11 @@ module _ (env : Environment) where
 
 -- which type of booleans a left of `&&` has, by its type
 pub left_so : (env : Environment) (K : CapabilityList) (a : Expr) (t : Typed) (mid after : CapabilityList)
-    (r : Result BooleanType fault.ExpressionFault) → mid ≡ K → Types env K a (static_view t.kind) (capabilities t.gains.items)
+    (r : Result BooleanType TypeFault) → mid ≡ K → Types env K a (static_view t.kind) (capabilities t.gains.items)
     → MatchResult r (λ b. (static_view t.kind ≡ boolean_view b) × (after ≡ mid ++ capabilities t.gains.items))
     (λ f. f ≢ NoMemory → (f ≡ Unexpected) × ¬ IsBoolean (static_view t.kind))
     → MatchResult r (λ b. (L : CapabilityList) × Types env K a (boolean_view b) L × (after ≡ K ++ L))
-    (λ f. f ≢ NoMemory → (b : Expr) → Faults env K (form.And a b) (fault_view f))
+    (λ f. f ≢ NoMemory → (b : Expr) → Faults env K (form.And a b) f)
 left_so env K a t mid after (Ok b) same h (e, g) = (
   capabilities t.gains.items,
   subst (λ s. Types env K a s (capabilities t.gains.items)) e h,
@@ -106,7 +106,7 @@ left_so env K a t mid after (Ok b) same h (e, g) = (
 )
 left_so env K a t mid after (Err f) same h g = λ n b.
     let w = g n in
-    subst (λ m. Faults env K (form.And a b) m) (ap fault_view (sym w.0)) (faults.left_of_and_no_boolean a b h w.1)
+    subst (λ m. Faults env K (form.And a b) m) (sym w.0) (faults.left_of_and_no_boolean a b h w.1)
 
 -- the last one behind others
 pub side_so : (o : Option BooleanType) (b c r : BooleanType) (t u : types.StaticType) → o ≡ Some b → t ≡ boolean_view c
@@ -133,7 +133,7 @@ module _ (env : Environment) (s : Option types.StaticType) (K : CapabilityList) 
   at_last le h = subst (λ xs. Leads env s K (joined xs last) whole) (drop_all i parts le) h
 
 pub last_typed : (env : Environment) (s : Option types.StaticType) (K L : CapabilityList) (x whole : Expr) (t : types.StaticType)
-    (r : Result StaticType fault.ExpressionFault) → Leads env s K x whole → Types env K x t L
+    (r : Result StaticType TypeFault) → Leads env s K x whole → Types env K x t L
     → MatchResult r (λ u. IsSide s t × (static_view u ≡ and_so_far s t)) (λ f. (f ≡ Unexpected) × ¬ IsSide s t)
     → IfOk r (λ u. (M : CapabilityList) × Types env [] whole (static_view u) M)
 last_typed env s K L x whole t (Ok u) h g (i, e) =
@@ -142,9 +142,9 @@ last_typed env s K L x whole t (Ok u) h g (i, e) =
 last_typed env s K L x whole t (Err f) h g e = tt
 
 pub last_faulty : (env : Environment) (s : Option types.StaticType) (K L : CapabilityList) (x whole : Expr) (t : types.StaticType)
-    (r : Result StaticType fault.ExpressionFault) → Leads env s K x whole → Types env K x t L
+    (r : Result StaticType TypeFault) → Leads env s K x whole → Types env K x t L
     → MatchResult r (λ u. IsSide s t × (static_view u ≡ and_so_far s t)) (λ f. (f ≡ Unexpected) × ¬ IsSide s t)
-    → IfErr r (λ f. f ≢ NoMemory → Faults env [] whole (fault_view f))
+    → IfErr r (λ f. f ≢ NoMemory → Faults env [] whole f)
 last_faulty env s K L x whole t (Ok u) h g e = tt
 last_faulty env s K L x whole t (Err f) h g (e, n) = λ m.
-    subst (λ k. Faults env [] whole k) (ap fault_view (sym e)) (h.no_side t L g n)
+    subst (λ k. Faults env [] whole k) (sym e) (h.no_side t L g n)

@@ -5,7 +5,6 @@ use Rattle.std.specs.Prelude.{IsSomeAnd, ⊤}
 use Rattle.std.specs.Borrow.{Bor}
 use Rattle.grammar_core.specs.declared.expr.Expr.{Expr}
 use Rattle.typing.specs.Types as types
-use Rattle.typing.specs.Environment as environment
 use Rattle.typing.specs.Environment.{Environment}
 use Rattle.typing.specs.Gained.{CapabilityList}
 use Rattle.typing.specs.Rows.{set_literal_type}
@@ -13,6 +12,7 @@ use Rattle.typing.specs.Typing as typing
 use Rattle.typing.specs.Typing.{Types, TypesEach}
 use Rattle.typing.specs.Faults.{Faults, FaultsEach}
 use Rattle.type_checker.specs.Views.{static_view}
+use Rattle.typing.specs.declared.fault.TypeFault.{TypeFault}
 use Rattle.type_checker.specs.declared.static_type.StaticType.{StaticType}
 use Rattle.type_checker.specs.inner.Judged.{IsNext}
 use Rattle.type_checker.proofs.Each.{StandsAt, with_it, parted, each_more, each_stops}
@@ -67,6 +67,6 @@ module _ (env : Environment) (K : CapabilityList) where
 
   -- the first member that has no type stands at this place
   pub member_stops : (xs : List Expr) (i : ℕ) (x : Expr) {o : Option (Bor Expr)} (ts : List types.StaticType)
-      (n : environment.ExpressionFault) → StandsAt xs i x → SoFar env K (take i xs) o ts → Faults env K x n → FaultsEach env K xs n
+      (n : TypeFault) → StandsAt xs i x → SoFar env K (take i xs) o ts → Faults env K x n → FaultsEach env K xs n
   member_stops xs i x ts n at s h =
       subst (λ ys. FaultsEach env K ys n) (parted xs i x at) (each_stops env K (drop (i + 1) xs) s.typed h)

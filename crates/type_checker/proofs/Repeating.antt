@@ -6,8 +6,8 @@ use Rattle.std.specs.Str.{bytes_eq}
 use Rattle.std.proofs.lemmas.Slice.Eq.{bytes_eq-Decides}
 use Rattle.typing.specs.Types as types
 use Rattle.typing.specs.Types.{StaticType, FieldTypes, common, common_fields, common_of, field_before, same_requirement}
-use Rattle.typing.specs.Environment as environment
 use Rattle.typing.specs.Rows.{Row, set_of_common, set_literal_type}
+use Rattle.typing.specs.declared.fault.TypeFault.TheVariants as fault
 
 -- ---- the common type of a type with itself
 
@@ -119,7 +119,7 @@ mutual
 abbrev adding : Row → StaticType → Row
 adding (Ok (types.set_type s)) t = set_of_common (common s t)
 adding (Ok s) t = Ok s
-adding (Err environment.empty_set) t = Ok (types.set_type t)
+adding (Err fault.EmptySet) t = Ok (types.set_type t)
 adding (Err n) t = Err n
 
 with_itself : (o : Option StaticType) → option_and_then (λ u. common_of u []) o ≡ o
@@ -154,7 +154,7 @@ absorbed t (Some u) h = ap set_of_common h
 adding_again : (r : Row) (t : StaticType) → adding (adding r t) t ≡ adding r t
 adding_again (Ok (types.set_type s)) t = absorbed t (common s t) (absorbs s t)
 adding_again (Ok s) t = refl
-adding_again (Err environment.empty_set) t = ap set_of_common (common_itself t)
+adding_again (Err fault.EmptySet) t = ap set_of_common (common_itself t)
 adding_again (Err n) t = refl
 
 -- one more of two lists of members whose sets are of one type

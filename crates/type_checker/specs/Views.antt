@@ -1,4 +1,4 @@
--- Defines the views of the code's types, errors and environments: the values of the typing rules that they represent.
+-- Defines the views of the code's types, and of its environments: the values of the typing rules that they represent.
 use Rattle.std.specs.Prelude.{◌≡◌, ◌≢◌, ℕ, List, [], ◌∷◌, Result, Ok, Err, IfErr, MatchResult}
 use Rattle.std.specs.Prelude.{Bool, true, false, if◌then◌else◌, IsTrue, Option, Some, IsSome}
 use Rattle.std.specs.Str.{bytes_eq}
@@ -6,16 +6,13 @@ use Rattle.std.specs.Borrow.{Bor}
 use Rattle.typing.specs.Types as types
 use Rattle.typing.specs.Types.{true_type, false_type, boolean_type, long_type, text_type, entity_type, set_type}
 use Rattle.typing.specs.Types.{record_type, decimal_type, ipaddr_type, FieldTypes, no_field_types, field_type}
-use Rattle.typing.specs.Environment as environment
 use Rattle.typing.specs.Environment.{Environment}
 use Rattle.typing.specs.Rows.{Row}
 use Rattle.schema_types.specs.CedarViews.{cedar_view, cedar_fields_view}
 use Rattle.entities.specs.schema.Views.{schema_view, environment_view}
 use Rattle.type_checker.specs.FromSchemas.{static, static_fields, typing_environment_of}
-use Rattle.type_checker.specs.declared.fault.ExpressionFault.{ExpressionFault}
-use Rattle.type_checker.specs.declared.fault.ExpressionFault.TheVariants.{Unexpected, NoCommonType}
-use Rattle.type_checker.specs.declared.fault.ExpressionFault.TheVariants.{AttributeMayBeMissing}
-use Rattle.type_checker.specs.declared.fault.ExpressionFault.TheVariants.{EmptySet, BadExtensionLiteral, NoMemory}
+use Rattle.typing.specs.declared.fault.TypeFault.{TypeFault}
+use Rattle.typing.specs.declared.fault.TypeFault.TheVariants.{NoMemory}
 use Rattle.type_checker.specs.declared.static_type.BooleanType.{BooleanType}
 use Rattle.type_checker.specs.declared.static_type.BooleanType.TheVariants as truth
 use Rattle.type_checker.specs.declared.static_type.Leaf.{Leaf}
@@ -93,26 +90,16 @@ MayTakeMemory t o = IsSome o × (o ≡ Some (static_view t) → IsTrue (type_sha
 
 -- ---- errors
 
--- `fault_view f` is the typing error that the error `f` of the code represents. `NoMemory` represents none: its clause
--- only makes the function total, and each use excludes `NoMemory` first, as `Answers` does below.
-abbrev pub fault_view : ExpressionFault → environment.ExpressionFault
-fault_view Unexpected = environment.unexpected
-fault_view NoCommonType = environment.no_common_type
-fault_view AttributeMayBeMissing = environment.attribute_may_be_missing
-fault_view EmptySet = environment.empty_set
-fault_view BadExtensionLiteral = environment.bad_extension_literal
-fault_view NoMemory = environment.unexpected
-
 -- `Answers r row` holds if `r` is the type or the error of `row`, or `NoMemory`.
-abbrev pub Answers : Result StaticType ExpressionFault → Row → Type 0
-Answers r row = MatchResult r (λ t. row ≡ Ok (static_view t)) (λ f. f ≢ NoMemory → row ≡ Err (fault_view f))
+abbrev pub Answers : Result StaticType TypeFault → Row → Type 0
+Answers r row = MatchResult r (λ t. row ≡ Ok (static_view t)) (λ f. f ≢ NoMemory → row ≡ Err f)
 
 -- `TakesMemoryOnly P r` holds if `P` holds whenever `r` is `NoMemory`.
-abbrev pub TakesMemoryOnly : Type 0 → Result StaticType ExpressionFault → Type 0
+abbrev pub TakesMemoryOnly : Type 0 → Result StaticType TypeFault → Type 0
 TakesMemoryOnly P r = IfErr r (λ f. f ≡ NoMemory → P)
 
 -- `TakesNoMemory r` holds if `r` is not `NoMemory`.
-abbrev pub TakesNoMemory : Result StaticType ExpressionFault → Type 0
+abbrev pub TakesNoMemory : Result StaticType TypeFault → Type 0
 TakesNoMemory r = IfErr r (λ f. f ≢ NoMemory)
 
 -- ---- environments

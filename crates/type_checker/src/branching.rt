@@ -15,13 +15,13 @@ ghost use Rattle.type_capabilities.specs.CapabilityList.{capabilities};
 ghost use Rattle.type_checker.specs.inner.Judged.{Judged, JudgedUnder, ThenTyped};
 
 use crate::common_types::common;
-use crate::fault::ExpressionFault;
 use crate::known::in_both_lists;
 use crate::static_type::{BooleanType, StaticType};
 use crate::typed::Typed;
 use plain::NoMemory;
 use std::alloc::Global;
 use type_capabilities::Capability;
+use typing::TypeFault;
 
 /// Returns the type of `&&` whose left side may be true, given the types of its sides.
 pub(crate) fn and_truth(left: BooleanType, right: BooleanType) -> BooleanType
@@ -43,8 +43,8 @@ pub(crate) fn and_truth(left: BooleanType, right: BooleanType) -> BooleanType
 /// those of the right side.
 pub(crate) fn and_typed<'a>(
     left: BooleanType,
-    right: Result<Typed<'a>, ExpressionFault>,
-) -> Result<Typed<'a>, ExpressionFault>
+    right: Result<Typed<'a>, TypeFault>,
+) -> Result<Typed<'a>, TypeFault>
     ensures { (env : environment.Environment) (K L after : CapabilityList) (a b : Expr)
         → Types env K a (boolean_view left) L
         → MayBeTrue (boolean_view left) → JudgedUnder env K L b right.entry after
@@ -64,15 +64,15 @@ pub(crate) fn and_typed<'a>(
         }
         None => {
             drop(right);
-            Err(ExpressionFault::Unexpected)
+            Err(TypeFault::Unexpected)
         }
     }
 }
 
 /// Returns the judgement on `||` whose left side has the type False, given the judgement on its right side.
 pub(crate) fn or_behind_false<'a>(
-    right: Result<Typed<'a>, ExpressionFault>,
-) -> Result<Typed<'a>, ExpressionFault>
+    right: Result<Typed<'a>, TypeFault>,
+) -> Result<Typed<'a>, TypeFault>
     ensures { (env : environment.Environment) (K L after : CapabilityList) (a b : Expr) → Types env K a false_type L
         → Judged env K b right.entry after → Judged env K (form.Or a b) result after }
 {
@@ -84,7 +84,7 @@ pub(crate) fn or_behind_false<'a>(
         Some(_) => Ok(right),
         None => {
             drop(right);
-            Err(ExpressionFault::Unexpected)
+            Err(TypeFault::Unexpected)
         }
     }
 }
@@ -124,8 +124,8 @@ fn or_gains<'a>(
 pub(crate) fn or_typed<'a>(
     alloc: Global,
     left: Vec<Capability<'a>>,
-    right: Result<Typed<'a>, ExpressionFault>,
-) -> Result<Typed<'a>, ExpressionFault>
+    right: Result<Typed<'a>, TypeFault>,
+) -> Result<Typed<'a>, TypeFault>
     ensures { (env : environment.Environment) (K after : CapabilityList) (a b : Expr)
         → Types env K a boolean_type (capabilities left.entry.items) → Judged env K b right.entry after
         → Judged env K (form.Or a b) result after }
@@ -146,13 +146,13 @@ pub(crate) fn or_typed<'a>(
                     kind: StaticType::boolean(or_truth(truth)),
                     gains,
                 }),
-                Err(_) => Err(ExpressionFault::NoMemory),
+                Err(_) => Err(TypeFault::NoMemory),
             }
         }
         None => {
             drop(left);
             drop(right);
-            Err(ExpressionFault::Unexpected)
+            Err(TypeFault::Unexpected)
         }
     }
 }
@@ -160,14 +160,14 @@ pub(crate) fn or_typed<'a>(
 /// Returns the type of an `if` whose branches have the common type in `kind`, or `NoCommonType` if they have none.
 fn branch_type<'a>(
     kind: Result<Option<StaticType<'a>>, NoMemory>,
-) -> Result<StaticType<'a>, ExpressionFault>
+) -> Result<StaticType<'a>, TypeFault>
     ensures { MatchResult result (λ t. kind.entry ≡ Ok (Some t))
-        (λ f. f ≢ ExpressionFault.NoMemory → (f ≡ ExpressionFault.NoCommonType) × (kind.entry ≡ Ok None)) }
+        (λ f. f ≢ TypeFault.NoMemory → (f ≡ TypeFault.NoCommonType) × (kind.entry ≡ Ok None)) }
 {
     match kind {
         Ok(Some(kind)) => Ok(kind),
-        Ok(None) => Err(ExpressionFault::NoCommonType),
-        Err(_) => Err(ExpressionFault::NoMemory),
+        Ok(None) => Err(TypeFault::NoCommonType),
+        Err(_) => Err(TypeFault::NoMemory),
     }
 }
 
@@ -175,19 +175,19 @@ fn branch_type<'a>(
 /// `kind`.
 fn with_both<'a>(
     alloc: Global,
-    kind: Result<StaticType<'a>, ExpressionFault>,
+    kind: Result<StaticType<'a>, TypeFault>,
     consequent: &Vec<Capability<'a>>,
     alternative: &Vec<Capability<'a>>,
-) -> Result<Typed<'a>, ExpressionFault>
+) -> Result<Typed<'a>, TypeFault>
     ensures { MatchResult result
         (λ t. (kind.entry ≡ Ok t.kind)
         × InBoth (capabilities alternative.now.items) (capabilities consequent.now.items) (capabilities t.gains.items))
-        (λ f. f ≢ ExpressionFault.NoMemory → kind.entry ≡ Err f) }
+        (λ f. f ≢ TypeFault.NoMemory → kind.entry ≡ Err f) }
 {
     match kind {
         Ok(kind) => match in_both_lists(alloc, alternative, consequent) {
             Ok(gains) => Ok(Typed { kind, gains }),
-            Err(_) => Err(ExpressionFault::NoMemory),
+            Err(_) => Err(TypeFault::NoMemory),
         },
         Err(fault) => Err(fault),
     }
@@ -198,8 +198,8 @@ fn with_both<'a>(
 pub(crate) fn branches<'a>(
     alloc: Global,
     then: Typed<'a>,
-    other: Result<Typed<'a>, ExpressionFault>,
-) -> Result<Typed<'a>, ExpressionFault>
+    other: Result<Typed<'a>, TypeFault>,
+) -> Result<Typed<'a>, TypeFault>
     ensures { (env : environment.Environment) (K after : CapabilityList) (a b c : Expr)
         → ThenTyped env K a b boolean_type then.entry → Judged env K c other.entry after
         → Judged env K (form.If a b c) result after }

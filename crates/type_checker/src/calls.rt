@@ -8,11 +8,11 @@ ghost use Rattle.typing.specs.Literals.{ReadsLiteral};
 ghost use Rattle.type_checker.specs.Views.{static_view, leaf_view};
 ghost use Rattle.type_checker.specs.inner.Judged.{CallTyped};
 
-use crate::fault::ExpressionFault;
 use crate::operators::address_test_type;
 use crate::static_type::{Leaf, StaticType};
 use grammar_core::{Expr, Literal, UnaryCall};
 use plain::Text;
+use typing::TypeFault;
 use values::{Decimal, IpNet};
 
 /// Returns the string of a string literal, or `None` for another expression.
@@ -53,14 +53,14 @@ fn is_network(expr: &Expr) -> bool
 }
 
 /// Returns the extension type `leaf` if `is_literal` is true, else `BadExtensionLiteral`.
-fn if_literal<'a>(is_literal: bool, leaf: Leaf<'a>) -> Result<StaticType<'a>, ExpressionFault>
+fn if_literal<'a>(is_literal: bool, leaf: Leaf<'a>) -> Result<StaticType<'a>, TypeFault>
     ensures { MatchResult result (λ t. (is_literal ≡ true) × (static_view t ≡ leaf_view leaf.entry))
-        (λ f. (is_literal ≡ false) × (f ≡ ExpressionFault.BadExtensionLiteral)) }
+        (λ f. (is_literal ≡ false) × (f ≡ TypeFault.BadExtensionLiteral)) }
 {
     if is_literal {
         Ok(StaticType::Leaf(leaf))
     } else {
-        Err(ExpressionFault::BadExtensionLiteral)
+        Err(TypeFault::BadExtensionLiteral)
     }
 }
 
@@ -71,7 +71,7 @@ pub(crate) fn unary_call_type<'a>(
     called: UnaryCall,
     operand: &Expr,
     kind: StaticType<'a>,
-) -> Result<StaticType<'a>, ExpressionFault>
+) -> Result<StaticType<'a>, TypeFault>
     ensures { CallTyped called operand.now (static_view kind.entry) result }
 {
     match called {

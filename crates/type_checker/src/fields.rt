@@ -9,11 +9,11 @@ ghost use Rattle.type_checker.specs.Views.{TakesNoMemory, TakesMemoryOnly};
 ghost use Rattle.type_checker.specs.inner.Parts.{built_view, fields_view, has_shared_field, found_shared, found_view};
 
 use crate::environment::TypingEnvironment;
-use crate::fault::ExpressionFault;
 use crate::parts::{Fields, Part, TypeKind};
 use crate::static_type::{BooleanType, Leaf, StaticType};
 use plain::Text;
 use schema_types::CedarType;
+use typing::TypeFault;
 
 /// Returns the declaration of `key` in a record type that an expression built, or `None`, by a linear search.
 fn found_built<'r, 'a>(
@@ -62,7 +62,7 @@ fn found<'r, 'a>(fields: Fields<'r, 'a>, key: &str) -> Option<(Part<'r, 'a>, boo
 fn access<'a>(
     is_known: bool,
     declared: Option<(Part<'_, 'a>, bool)>,
-) -> Result<StaticType<'a>, ExpressionFault>
+) -> Result<StaticType<'a>, TypeFault>
     ensures row { Answers result (access_type is_known (found_view declared.entry)) }
     ensures memory { TakesMemoryOnly (IsTrue (found_shared declared.entry)) result }
 {
@@ -71,10 +71,10 @@ fn access<'a>(
             if required || is_known {
                 Ok(part.taken()?)
             } else {
-                Err(ExpressionFault::AttributeMayBeMissing)
+                Err(TypeFault::AttributeMayBeMissing)
             }
         }
-        None => Err(ExpressionFault::AttributeMayBeMissing),
+        None => Err(TypeFault::AttributeMayBeMissing),
     }
 }
 
@@ -124,7 +124,7 @@ pub fn field_type<'a>(
     is_known: bool,
     key: &str,
     whole: &StaticType<'a>,
-) -> Result<StaticType<'a>, ExpressionFault>
+) -> Result<StaticType<'a>, TypeFault>
     ensures row { Answers result
         (field_type_of (typing_environment env.entry) is_known key.now (static_view whole.now)) }
     ensures memory { TakesMemoryOnly (IsTrue ((type_sharing whole.now).at key.now)) result }
@@ -135,7 +135,7 @@ pub fn field_type<'a>(
         StaticType::Record(fields) => access(is_known, found_built(fields.as_slice(), key)),
         StaticType::Leaf(Leaf::Boolean(_) | Leaf::Long | Leaf::Text | Leaf::Decimal | Leaf::Ipaddr)
         | StaticType::DeclaredSet(_)
-        | StaticType::Set(_) => Err(ExpressionFault::Unexpected),
+        | StaticType::Set(_) => Err(TypeFault::Unexpected),
     }
 }
 
@@ -153,7 +153,7 @@ pub fn has_type<'a>(
     is_known: bool,
     key: &str,
     whole: &StaticType<'a>,
-) -> Result<StaticType<'a>, ExpressionFault>
+) -> Result<StaticType<'a>, TypeFault>
     ensures row { Answers result
         (has_type (typing_environment env.entry) is_known key.now (static_view whole.now)) }
     ensures memory { TakesNoMemory result }
@@ -168,6 +168,6 @@ pub fn has_type<'a>(
             is_known,
             env.attribute(name, key),
         ))),
-        _ => Err(ExpressionFault::Unexpected),
+        _ => Err(TypeFault::Unexpected),
     }
 }

@@ -11,14 +11,13 @@ ghost use Rattle.typing.specs.Gained.{CapabilityList, has_gains};
 ghost use Rattle.typing.specs.Literals.{UndecidedByLiterals};
 ghost use Rattle.typing.specs.Typing.{Types};
 ghost use Rattle.typing.specs.Faults.{Faults};
-ghost use Rattle.type_checker.specs.Views.{static_view, fault_view, typing_environment};
+ghost use Rattle.type_checker.specs.Views.{static_view, typing_environment};
 ghost use Rattle.type_capabilities.specs.CapabilityList.{capabilities};
 ghost use Rattle.type_checker.specs.inner.CapabilityList.{if_gained};
 ghost use Rattle.type_checker.specs.inner.Judged.{Judged, JudgedEach, JudgedMembers, IsHasRow, IsNext};
 
 use crate::calls::unary_call_type;
 use crate::environment::TypingEnvironment;
-use crate::fault::ExpressionFault;
 use crate::fields::{field_type, has_type};
 use crate::known::knows;
 use crate::literal_types::{record_literal_type, set_literal_type};
@@ -29,13 +28,14 @@ use grammar_core::{Binary, BinaryCall, Expr, Named, Unary, UnaryCall};
 use plain::NoMemory;
 use std::alloc::Global;
 use type_capabilities::{Capabilities, Capability};
+use typing::TypeFault;
 
 /// Returns the judgement on a unary operator, given the judgement on its operand.
 pub(crate) fn unary_typed<'a>(
     alloc: Global,
     operator: &Unary,
-    operand: Result<Typed<'a>, ExpressionFault>,
-) -> Result<Typed<'a>, ExpressionFault>
+    operand: Result<Typed<'a>, TypeFault>,
+) -> Result<Typed<'a>, TypeFault>
     ensures { (env : environment.Environment) (K after : CapabilityList) (a : Expr) → Judged env K a operand.entry after
         → Judged env K (form.Unary operator.now a) result after }
 {
@@ -53,8 +53,8 @@ pub(crate) fn binary_typed<'a>(
     env: TypingEnvironment<'a>,
     operator: Binary,
     left: Typed<'a>,
-    right: Result<Typed<'a>, ExpressionFault>,
-) -> Result<Typed<'a>, ExpressionFault>
+    right: Result<Typed<'a>, TypeFault>,
+) -> Result<Typed<'a>, TypeFault>
     ensures { let E = typing_environment env.entry in
         (K after : CapabilityList) (a b : Expr) → UndecidedByLiterals E operator a b
         → Types E K a (static_view left.entry.kind) (capabilities left.entry.gains.items)
@@ -79,8 +79,8 @@ pub(crate) fn call_typed<'a>(
     alloc: Global,
     called: BinaryCall,
     left: Typed<'a>,
-    right: Result<Typed<'a>, ExpressionFault>,
-) -> Result<Typed<'a>, ExpressionFault>
+    right: Result<Typed<'a>, TypeFault>,
+) -> Result<Typed<'a>, TypeFault>
     ensures { (env : environment.Environment) (K after : CapabilityList) (a b : Expr)
         → Types env K a (static_view left.entry.kind) (capabilities left.entry.gains.items)
         → Judged env K b right.entry after → Judged env K (form.BinaryCall called a b) result after }
@@ -100,8 +100,8 @@ pub(crate) fn unary_call_typed<'a>(
     alloc: Global,
     called: UnaryCall,
     operand: &Expr,
-    typed: Result<Typed<'a>, ExpressionFault>,
-) -> Result<Typed<'a>, ExpressionFault>
+    typed: Result<Typed<'a>, TypeFault>,
+) -> Result<Typed<'a>, TypeFault>
     ensures { (env : environment.Environment) (K after : CapabilityList) → Judged env K operand.now typed.entry after
         → Judged env K (form.UnaryCall called operand.now) result after }
 {
@@ -119,8 +119,8 @@ pub(crate) fn field_typed<'a>(
     known: &Capabilities<'a>,
     owner: &'a Expr,
     name: &'a str,
-    typed: Result<Typed<'a>, ExpressionFault>,
-) -> Result<Typed<'a>, ExpressionFault>
+    typed: Result<Typed<'a>, TypeFault>,
+) -> Result<Typed<'a>, TypeFault>
     ensures { let E = typing_environment env.entry in
         (K : CapabilityList) → Judged E K owner.entry.now typed.entry known.now
         → Judged E K (form.Field owner.entry.now name.entry.now) result known.now }
@@ -168,16 +168,16 @@ fn learned<'a>(
 /// Returns the type of `owner has name` in `row`, with the capabilities that it gains, or the error in `row`.
 fn has_row<'a>(
     alloc: Global,
-    row: Result<StaticType<'a>, ExpressionFault>,
+    row: Result<StaticType<'a>, TypeFault>,
     owner: &'a Expr,
     name: &'a str,
-) -> Result<Typed<'a>, ExpressionFault>
+) -> Result<Typed<'a>, TypeFault>
     ensures { IsHasRow (owner.entry.now, name.entry.now) row.entry result }
 {
     match row {
         Ok(kind) => match learned(alloc, &kind, owner, name) {
             Ok(gains) => Ok(Typed { kind, gains }),
-            Err(_) => Err(ExpressionFault::NoMemory),
+            Err(_) => Err(TypeFault::NoMemory),
         },
         Err(fault) => Err(fault),
     }
@@ -190,8 +190,8 @@ pub(crate) fn has_typed<'a>(
     known: &Capabilities<'a>,
     owner: &'a Expr,
     name: &'a str,
-    typed: Result<Typed<'a>, ExpressionFault>,
-) -> Result<Typed<'a>, ExpressionFault>
+    typed: Result<Typed<'a>, TypeFault>,
+) -> Result<Typed<'a>, TypeFault>
     ensures { let E = typing_environment env.entry in
         (K : CapabilityList) → Judged E K owner.entry.now typed.entry known.now
         → Judged E K (form.Has owner.entry.now name.entry.now) result known.now }
@@ -210,8 +210,8 @@ pub(crate) fn has_typed<'a>(
 /// be left out.
 pub(crate) fn set_typed<'a>(
     alloc: Global,
-    types: Result<Vec<StaticType<'a>>, ExpressionFault>,
-) -> Result<Typed<'a>, ExpressionFault>
+    types: Result<Vec<StaticType<'a>>, TypeFault>,
+) -> Result<Typed<'a>, TypeFault>
     ensures { (env : environment.Environment) (K after : CapabilityList) (xs : List Expr)
         → JudgedMembers env K xs types.entry after → Judged env K (form.Set xs) result after }
 {
@@ -226,8 +226,8 @@ pub(crate) fn set_typed<'a>(
 pub(crate) fn record_typed<'a>(
     alloc: Global,
     fields: &'a [Named<Expr>],
-    types: Result<Vec<StaticType<'a>>, ExpressionFault>,
-) -> Result<Typed<'a>, ExpressionFault>
+    types: Result<Vec<StaticType<'a>>, TypeFault>,
+) -> Result<Typed<'a>, TypeFault>
     ensures { (env : environment.Environment) (K after : CapabilityList)
         → JudgedEach env K (map (λ f. f.value) fields.entry.now) types.entry after
         → Judged env K (form.Record fields.entry.now) result after }
@@ -238,18 +238,18 @@ pub(crate) fn record_typed<'a>(
     };
     match record_literal_type(alloc, fields, types) {
         Ok(kind) => Ok(plain(alloc, kind)),
-        Err(_) => Err(ExpressionFault::NoMemory),
+        Err(_) => Err(TypeFault::NoMemory),
     }
 }
 
 /// Appends the type in `typed` to `types`, or returns the error in `typed`, or `NoMemory`.
 pub(crate) fn put_type<'a>(
     types: &mut Vec<StaticType<'a>>,
-    typed: Result<Typed<'a>, ExpressionFault>,
-) -> Result<(), ExpressionFault>
+    typed: Result<Typed<'a>, TypeFault>,
+) -> Result<(), TypeFault>
     ensures { (env : environment.Environment) (K after : CapabilityList) (x : Expr) → Judged env K x typed.entry after
         → MatchResult result (λ _. (after ≡ K) × IsNext env K x types.old.items types.new.items)
-        (λ f. f ≢ ExpressionFault.NoMemory → Faults env K x (fault_view f)) }
+        (λ f. f ≢ TypeFault.NoMemory → Faults env K x f) }
 {
     let typed = match typed {
         Ok(typed) => typed,

@@ -6,13 +6,12 @@ ghost use Rattle.typing.specs.Types.{IsBoolean};
 ghost use Rattle.typing.specs.Gained.{CapabilityList};
 ghost use Rattle.typing.specs.Typing.{Types};
 ghost use Rattle.typing.specs.Faults.{Faults};
-ghost use Rattle.type_checker.specs.Views.{boolean_view, static_view, fault_view, typing_environment};
+ghost use Rattle.type_checker.specs.Views.{boolean_view, static_view, typing_environment};
 ghost use Rattle.type_capabilities.specs.CapabilityList.{capabilities};
 ghost use Rattle.type_checker.specs.inner.Joining.{and_so_far, IsSide};
 
 use crate::branching::and_truth;
 use crate::environment::TypingEnvironment;
-use crate::fault::ExpressionFault;
 use crate::judging::type_of;
 use crate::known::know_too;
 use crate::static_type::{BooleanType, StaticType};
@@ -20,25 +19,23 @@ use crate::typed::Typed;
 use grammar_core::Expr;
 use std::alloc::Global;
 use type_capabilities::Capabilities;
+use typing::TypeFault;
 
 /// Returns the boolean type of a left side of `&&`, and pushes the capabilities that it gains onto `known`.
 /// Returns `Unexpected` if the left side is not boolean.
-fn known_left<'a>(
-    known: &mut Capabilities<'a>,
-    typed: &Typed<'a>,
-) -> Result<BooleanType, ExpressionFault>
+fn known_left<'a>(known: &mut Capabilities<'a>, typed: &Typed<'a>) -> Result<BooleanType, TypeFault>
     ensures { MatchResult result
         (λ b. (static_view typed.now.kind ≡ boolean_view b)
         × (known.new ≡ known.old ++ capabilities typed.now.gains.items))
-        (λ f. f ≢ ExpressionFault.NoMemory
-        → (f ≡ ExpressionFault.Unexpected) × ¬ IsBoolean (static_view typed.now.kind)) }
+        (λ f. f ≢ TypeFault.NoMemory
+        → (f ≡ TypeFault.Unexpected) × ¬ IsBoolean (static_view typed.now.kind)) }
 {
     match typed.kind.as_boolean() {
         Some(truth) => match know_too(known, &typed.gains) {
             Ok(()) => Ok(truth),
-            Err(_) => Err(ExpressionFault::NoMemory),
+            Err(_) => Err(TypeFault::NoMemory),
         },
-        None => Err(ExpressionFault::Unexpected),
+        None => Err(TypeFault::Unexpected),
     }
 }
 
@@ -49,12 +46,12 @@ pub(crate) fn left_type<'a>(
     env: TypingEnvironment<'a>,
     left: &'a Expr,
     known: &mut Capabilities<'a>,
-) -> Result<BooleanType, ExpressionFault>
+) -> Result<BooleanType, TypeFault>
     ensures { let E = typing_environment env.entry in MatchResult result
         (λ b. (L : CapabilityList) × Types E known.old left.entry.now (boolean_view b) L
         × (known.new ≡ known.old ++ L))
-        (λ f. f ≢ ExpressionFault.NoMemory
-        → (b : Expr) → Faults E known.old (form.And left.entry.now b) (fault_view f)) }
+        (λ f. f ≢ TypeFault.NoMemory
+        → (b : Expr) → Faults E known.old (form.And left.entry.now b) f) }
 {
     match type_of(alloc, left, env, known) {
         Ok(typed) => known_left(known, &typed),
@@ -80,15 +77,15 @@ pub(crate) fn and_one_more(so_far: Option<BooleanType>, truth: BooleanType) -> O
 pub(crate) fn and_last<'a>(
     so_far: Option<BooleanType>,
     last: StaticType<'a>,
-) -> Result<StaticType<'a>, ExpressionFault>
+) -> Result<StaticType<'a>, TypeFault>
     ensures { let s = option_map boolean_view so_far in MatchResult result
         (λ t. IsSide s (static_view last.entry) × (static_view t ≡ and_so_far s (static_view last.entry)))
-        (λ f. (f ≡ ExpressionFault.Unexpected) × ¬ IsSide s (static_view last.entry)) }
+        (λ f. (f ≡ TypeFault.Unexpected) × ¬ IsSide s (static_view last.entry)) }
 {
     match so_far {
         Some(left) => match last.as_boolean() {
             Some(truth) => Ok(StaticType::boolean(and_truth(left, truth))),
-            None => Err(ExpressionFault::Unexpected),
+            None => Err(TypeFault::Unexpected),
         },
         None => Ok(last),
     }

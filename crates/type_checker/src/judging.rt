@@ -11,7 +11,6 @@ ghost use Rattle.type_checker.specs.inner.Judged.{Judged, JudgedUnder, JudgedEac
 use crate::branching::{and_typed, branches, or_behind_false, or_typed};
 use crate::environment::TypingEnvironment;
 use crate::equal::repeats;
-use crate::fault::ExpressionFault;
 use crate::finishing::{
     binary_typed, call_typed, field_typed, has_typed, put_type, record_typed, set_typed,
     unary_call_typed, unary_typed,
@@ -26,6 +25,7 @@ use grammar_core::{Binary, BinaryCall, Expr, Named};
 use plain::{Items, Shared};
 use std::alloc::Global;
 use type_capabilities::{Capabilities, Capability};
+use typing::TypeFault;
 
 /// Returns the judgement on an expression under the capabilities on the stack `known`, which is unchanged if the result
 /// is a type.
@@ -35,7 +35,7 @@ pub(crate) fn type_of<'a>(
     expr: &'a Expr,
     env: TypingEnvironment<'a>,
     known: &mut Capabilities<'a>,
-) -> Result<Typed<'a>, ExpressionFault>
+) -> Result<Typed<'a>, TypeFault>
     ensures { Judged (typing_environment env.entry) known.old expr.entry.now result known.new }
 {
     match expr {
@@ -89,7 +89,7 @@ fn type_under_gained<'a>(
     env: TypingEnvironment<'a>,
     known: &mut Capabilities<'a>,
     gains: Vec<Capability<'a>>,
-) -> Result<Typed<'a>, ExpressionFault>
+) -> Result<Typed<'a>, TypeFault>
     ensures { JudgedUnder (typing_environment env.entry) known.old (capabilities gains.entry.items)
         expr.entry.now result known.new }
 {
@@ -100,7 +100,7 @@ fn type_under_gained<'a>(
             known.truncate_to(height);
             gained_too(gains, typed)
         }
-        Err(_) => Err(ExpressionFault::NoMemory),
+        Err(_) => Err(TypeFault::NoMemory),
     }
 }
 
@@ -114,7 +114,7 @@ fn type_and<'a>(
     right: &'a Shared<Expr>,
     env: TypingEnvironment<'a>,
     known: &mut Capabilities<'a>,
-) -> Result<Typed<'a>, ExpressionFault>
+) -> Result<Typed<'a>, TypeFault>
     ensures { Judged (typing_environment env.entry) known.old (form.And left.entry.now right.entry.now) result
         known.new }
 {
@@ -144,7 +144,7 @@ fn type_or<'a>(
     right: &'a Shared<Expr>,
     env: TypingEnvironment<'a>,
     known: &mut Capabilities<'a>,
-) -> Result<Typed<'a>, ExpressionFault>
+) -> Result<Typed<'a>, TypeFault>
     ensures { Judged (typing_environment env.entry) known.old (form.Or left.entry.now right.entry.now) result
         known.new }
 {
@@ -162,7 +162,7 @@ fn type_binary<'a>(
     right: &'a Shared<Expr>,
     env: TypingEnvironment<'a>,
     known: &mut Capabilities<'a>,
-) -> Result<Typed<'a>, ExpressionFault>
+) -> Result<Typed<'a>, TypeFault>
     ensures { Judged (typing_environment env.entry) known.old
         (form.Binary operator left.entry.now right.entry.now) result known.new }
 {
@@ -184,8 +184,8 @@ fn second_conjunct<'a>(
     right: &'a Shared<Expr>,
     env: TypingEnvironment<'a>,
     known: &mut Capabilities<'a>,
-    left: Result<Typed<'a>, ExpressionFault>,
-) -> Result<Typed<'a>, ExpressionFault>
+    left: Result<Typed<'a>, TypeFault>,
+) -> Result<Typed<'a>, TypeFault>
     ensures { let E = typing_environment env.entry in (K : CapabilityList) (a : Expr)
         → Judged E K a left.entry known.old
         → Judged E K (form.And a right.entry.now) result known.new }
@@ -202,7 +202,7 @@ fn second_conjunct<'a>(
             }
             None => {
                 drop(left);
-                Err(ExpressionFault::Unexpected)
+                Err(TypeFault::Unexpected)
             }
         },
         Err(fault) => Err(fault),
@@ -218,8 +218,8 @@ fn second_disjunct<'a>(
     right: &'a Shared<Expr>,
     env: TypingEnvironment<'a>,
     known: &mut Capabilities<'a>,
-    left: Result<Typed<'a>, ExpressionFault>,
-) -> Result<Typed<'a>, ExpressionFault>
+    left: Result<Typed<'a>, TypeFault>,
+) -> Result<Typed<'a>, TypeFault>
     ensures { let E = typing_environment env.entry in (K : CapabilityList) (a : Expr)
         → Judged E K a left.entry known.old
         → Judged E K (form.Or a right.entry.now) result known.new }
@@ -242,7 +242,7 @@ fn second_disjunct<'a>(
             }
             None => {
                 drop(left);
-                Err(ExpressionFault::Unexpected)
+                Err(TypeFault::Unexpected)
             }
         },
         Err(fault) => Err(fault),
@@ -258,8 +258,8 @@ fn type_then<'a>(
     consequent: &'a Shared<Expr>,
     env: TypingEnvironment<'a>,
     known: &mut Capabilities<'a>,
-    test: Result<Typed<'a>, ExpressionFault>,
-) -> Result<Then<'a>, ExpressionFault>
+    test: Result<Typed<'a>, TypeFault>,
+) -> Result<Then<'a>, TypeFault>
     ensures { let E = typing_environment env.entry in (K : CapabilityList) (a : Expr)
         → Judged E K a test.entry known.old
         → ThenJudged E K a consequent.entry.now result known.new }
@@ -280,7 +280,7 @@ fn type_then<'a>(
             }
             None => {
                 drop(test);
-                Err(ExpressionFault::Unexpected)
+                Err(TypeFault::Unexpected)
             }
         },
         Err(fault) => Err(fault),
@@ -296,8 +296,8 @@ fn type_else<'a>(
     alternative: &'a Shared<Expr>,
     env: TypingEnvironment<'a>,
     known: &mut Capabilities<'a>,
-    then: Result<Then<'a>, ExpressionFault>,
-) -> Result<Typed<'a>, ExpressionFault>
+    then: Result<Then<'a>, TypeFault>,
+) -> Result<Typed<'a>, TypeFault>
     ensures { let E = typing_environment env.entry in
         (K : CapabilityList) (a b : Expr) → ThenJudged E K a b then.entry known.old
         → Judged E K (form.If a b alternative.entry.now) result known.new }
@@ -323,8 +323,8 @@ fn second_operand<'a>(
     env: TypingEnvironment<'a>,
     known: &mut Capabilities<'a>,
     operator: Binary,
-    left: Result<Typed<'a>, ExpressionFault>,
-) -> Result<Typed<'a>, ExpressionFault>
+    left: Result<Typed<'a>, TypeFault>,
+) -> Result<Typed<'a>, TypeFault>
     ensures { let E = typing_environment env.entry in
         (K : CapabilityList) (a : Expr) → UndecidedByLiterals E operator a right.entry.now
         → Judged E K a left.entry known.old
@@ -349,8 +349,8 @@ fn second_called<'a>(
     env: TypingEnvironment<'a>,
     known: &mut Capabilities<'a>,
     called: BinaryCall,
-    left: Result<Typed<'a>, ExpressionFault>,
-) -> Result<Typed<'a>, ExpressionFault>
+    left: Result<Typed<'a>, TypeFault>,
+) -> Result<Typed<'a>, TypeFault>
     ensures { let E = typing_environment env.entry in (K : CapabilityList) (a : Expr)
         → Judged E K a left.entry known.old
         → Judged E K (form.BinaryCall called a right.entry.now) result known.new }
@@ -372,7 +372,7 @@ fn types_of<'a>(
     exprs: &'a Items<Expr>,
     env: TypingEnvironment<'a>,
     known: &mut Capabilities<'a>,
-) -> Result<Vec<StaticType<'a>>, ExpressionFault>
+) -> Result<Vec<StaticType<'a>>, TypeFault>
     ensures { JudgedMembers (typing_environment env.entry) known.old exprs.entry.now result known.new }
 {
     let mut types = Vec::new(alloc);
@@ -399,7 +399,7 @@ fn types_of_fields<'a>(
     fields: &'a Items<Named<Expr>>,
     env: TypingEnvironment<'a>,
     known: &mut Capabilities<'a>,
-) -> Result<Vec<StaticType<'a>>, ExpressionFault>
+) -> Result<Vec<StaticType<'a>>, TypeFault>
     ensures { JudgedEach (typing_environment env.entry) known.old
         (map (λ f. f.value) fields.entry.now) result known.new }
 {

@@ -32,7 +32,7 @@ fn keep<'a>(
 }
 
 /// Returns the capabilities of `these` that are known, in their order.
-fn known_of<'a>(
+fn known_among<'a>(
     alloc: Global,
     these: &[Capability<'a>],
     known: &Capabilities<'a>,
@@ -67,7 +67,7 @@ pub(crate) fn in_both<'a>(
     ensures { IfOk result (λ both. InBoth (capabilities left.now) (capabilities right.now) (capabilities both.items)) }
 {
     let known = stacked(alloc, right)?;
-    known_of(alloc, left, &known)
+    known_among(alloc, left, &known)
 }
 
 /// Returns the capabilities of `left` that are in `right` too.

@@ -12,7 +12,6 @@ mod common_types;
 mod dropping;
 mod environment;
 mod equal;
-mod fault;
 mod fields;
 mod finishing;
 mod joining;
@@ -34,7 +33,6 @@ mod whole;
 pub use common_types::common;
 pub use dropping::{drop_type, drop_types, truncate_types};
 pub use environment::{TypingEnvironment, attributes_of, is_action_type};
-pub use fault::ExpressionFault;
 pub use fields::{field_type, has_type};
 pub use laws::environments_are_ordered;
 pub use literal_types::{literal_type, record_literal_type, set_literal_type};
@@ -47,7 +45,8 @@ pub use whole::judge_all;
 // of this layer
 pub use type_capabilities::Capability;
 pub use typing::{
-    expressions_have_one_judgement, parents_determine_ancestors, typed_expressions_are_sound,
+    TypeFault, expressions_have_one_judgement, parents_determine_ancestors,
+    typed_expressions_are_sound,
 };
 
 // of lower layers

@@ -7,12 +7,12 @@ ghost use Rattle.type_checker.specs.Views.{boolean_view, static_view, Answers};
 ghost use Rattle.type_checker.specs.inner.Parts.{built_view, map_fields};
 
 use crate::common_types::common;
-use crate::fault::ExpressionFault;
 use crate::static_type::{BooleanType, Leaf, StaticType};
 use grammar_core::{Expr, Literal, Named};
 use plain::{Items, NoMemory, Shared};
 use std::alloc::Global;
 use std::collections::BTreeMap;
+use typing::TypeFault;
 
 /// Returns the type of an expression that is known to give `truth`.
 pub(crate) fn truth_type(truth: bool) -> BooleanType
@@ -57,7 +57,7 @@ fn set_type_of<'a>(
     alloc: Global,
     first: &StaticType<'a>,
     rest: &[StaticType<'a>],
-) -> Result<StaticType<'a>, ExpressionFault>
+) -> Result<StaticType<'a>, TypeFault>
     ensures { Answers result
         (set_of_common (common_of (static_view first.now) (map (λ t. static_view t) rest.now))) }
 {
@@ -65,7 +65,7 @@ fn set_type_of<'a>(
     for ty in rest {
         match joined_with(alloc, joined, ty)? {
             Some(wider) => joined = wider,
-            None => return Err(ExpressionFault::NoCommonType),
+            None => return Err(TypeFault::NoCommonType),
         }
     }
     Ok(StaticType::Set(Shared::new(alloc, joined)?))
@@ -82,11 +82,11 @@ fn set_type_of<'a>(
 pub fn set_literal_type<'a>(
     alloc: Global,
     members: Vec<StaticType<'a>>,
-) -> Result<StaticType<'a>, ExpressionFault>
+) -> Result<StaticType<'a>, TypeFault>
     ensures { Answers result (set_literal_type (map (λ t. static_view t) members.entry.items)) }
 {
     match members.as_slice() {
-        [] => Err(ExpressionFault::EmptySet),
+        [] => Err(TypeFault::EmptySet),
         [first, rest @ ..] => set_type_of(alloc, first, rest),
     }
 }

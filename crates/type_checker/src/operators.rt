@@ -12,13 +12,13 @@ ghost use Rattle.type_checker.specs.inner.Rows.{entity_type_in, entities_in, are
 ghost use Rattle.type_checker.specs.inner.Rows.{is_decimal, is_ipaddr};
 
 use crate::environment::{TypingEnvironment, is_action_type};
-use crate::fault::ExpressionFault;
 use crate::literal_types::truth_type;
 use crate::parts::{Part, TypeKind};
 use crate::static_type::{BooleanType, Leaf, StaticType};
 use crate::type_joins::{Join, join_of};
 use grammar_core::{Binary, BinaryCall, Unary};
 use std::alloc::Global;
+use typing::TypeFault;
 use values::TypeName;
 
 /// Returns the type of a negated boolean.
@@ -33,10 +33,7 @@ fn negation_type(truth: BooleanType) -> BooleanType
 }
 
 /// Returns the type of a unary operator on an operand of this kind, or `Unexpected`.
-fn unary_of<'a>(
-    operator: &Unary,
-    operand: TypeKind<'_, 'a>,
-) -> Result<StaticType<'a>, ExpressionFault>
+fn type_unary<'a>(operator: &Unary, operand: TypeKind<'_, 'a>) -> Result<StaticType<'a>, TypeFault>
     ensures row { Answers result (unary_type operator.now (kind_view operand.entry)) }
     ensures memory { TakesNoMemory result }
 {
@@ -52,7 +49,7 @@ fn unary_of<'a>(
             let truth = found.as_str() == name.as_str();
             Ok(StaticType::boolean(truth_type(truth)))
         }
-        _ => Err(ExpressionFault::Unexpected),
+        _ => Err(TypeFault::Unexpected),
     }
 }
 
@@ -64,11 +61,11 @@ fn unary_of<'a>(
 pub fn unary_type<'a>(
     operator: &Unary,
     operand: StaticType<'a>,
-) -> Result<StaticType<'a>, ExpressionFault>
+) -> Result<StaticType<'a>, TypeFault>
     ensures row { Answers result (unary_type operator.now (static_view operand.entry)) }
     ensures memory { TakesNoMemory result }
 {
-    let row = unary_of(operator, Part::Built(&operand).kind());
+    let row = type_unary(operator, Part::Built(&operand).kind());
     drop(operand);
     row
 }
@@ -90,48 +87,48 @@ pub fn binary_type<'a>(
     operator: Binary,
     left: StaticType<'a>,
     right: StaticType<'a>,
-) -> Result<StaticType<'a>, ExpressionFault>
+) -> Result<StaticType<'a>, TypeFault>
     ensures row { Answers result
         (binary_type (typing_environment env.entry) operator (static_view left.entry) (static_view right.entry)) }
     ensures memory { TakesNoMemory result }
 {
-    let row = binary_of(env, operator, Part::Built(&left), Part::Built(&right));
+    let row = type_binary(env, operator, Part::Built(&left), Part::Built(&right));
     drop(left);
     drop(right);
     row
 }
 
 /// Returns the type of a binary operator on operands of these types, each built or declared.
-fn binary_of<'a>(
+fn type_binary<'a>(
     env: TypingEnvironment<'a>,
     operator: Binary,
     left: Part<'_, 'a>,
     right: Part<'_, 'a>,
-) -> Result<StaticType<'a>, ExpressionFault>
+) -> Result<StaticType<'a>, TypeFault>
     ensures row { Answers result
         (binary_type (typing_environment env.entry) operator (part_view left.entry) (part_view right.entry)) }
     ensures memory { TakesNoMemory result }
 {
     let (one, other) = (left.kind(), right.kind());
     match operator {
-        Binary::Equal => equal_of(left, right),
-        Binary::In => in_of(env, one, other),
+        Binary::Equal => type_equality(left, right),
+        Binary::In => type_membership(env, one, other),
         Binary::Less | Binary::LessOrEqual => {
             of_numbers(Leaf::Boolean(BooleanType::Either), one, other)
         }
         Binary::Add | Binary::Subtract | Binary::Multiply => of_numbers(Leaf::Long, one, other),
-        Binary::Contains => contains_of(one, right),
+        Binary::Contains => type_containment(one, right),
         Binary::ContainsAll | Binary::ContainsAny => sets_of(one, other),
     }
 }
 
 /// Returns Bool if two types have a common type, else `NoCommonType`.
-fn if_common<'a>(left: Part<'_, 'a>, right: Part<'_, 'a>) -> Result<StaticType<'a>, ExpressionFault>
+fn if_common<'a>(left: Part<'_, 'a>, right: Part<'_, 'a>) -> Result<StaticType<'a>, TypeFault>
     ensures row { Answers result (if_common (common (part_view left.entry) (part_view right.entry))) }
     ensures memory { TakesNoMemory result }
 {
     match join_of(left, right) {
-        Join::Apart => Err(ExpressionFault::NoCommonType),
+        Join::Apart => Err(TypeFault::NoCommonType),
         Join::Left | Join::Wider => Ok(StaticType::boolean(BooleanType::Either)),
     }
 }
@@ -158,7 +155,7 @@ fn entities_of<'a>(kind: TypeKind<'_, 'a>) -> Option<&'a TypeName>
 
 /// Returns the type of `==`: False for two different entity types, else Bool if there is a common type, else
 /// `NoCommonType`.
-fn equal_of<'a>(left: Part<'_, 'a>, right: Part<'_, 'a>) -> Result<StaticType<'a>, ExpressionFault>
+fn type_equality<'a>(left: Part<'_, 'a>, right: Part<'_, 'a>) -> Result<StaticType<'a>, TypeFault>
     ensures row { Answers result (equal_type (part_view left.entry) (part_view right.entry)) }
     ensures memory { TakesNoMemory result }
 {
@@ -194,17 +191,17 @@ fn may_be_in(env: TypingEnvironment<'_>, left: &TypeName, right: &TypeName) -> b
 
 /// Returns the type of `in` on operands of these kinds. Returns `Unexpected` unless the left one is an entity, and the
 /// right one an entity or a set of entities.
-fn in_of<'a>(
+fn type_membership<'a>(
     env: TypingEnvironment<'a>,
     left: TypeKind<'_, 'a>,
     right: TypeKind<'_, 'a>,
-) -> Result<StaticType<'a>, ExpressionFault>
+) -> Result<StaticType<'a>, TypeFault>
     ensures row { Answers result
         (binary_type (typing_environment env.entry) In (kind_view left.entry) (kind_view right.entry)) }
     ensures memory { TakesNoMemory result }
 {
     let (Some(below), Some(above)) = (entity_of(left), entities_of(right)) else {
-        return Err(ExpressionFault::Unexpected);
+        return Err(TypeFault::Unexpected);
     };
     if may_be_in(env, below, above) {
         Ok(StaticType::boolean(BooleanType::Either))
@@ -218,43 +215,40 @@ fn of_numbers<'a>(
     given: Leaf<'a>,
     left: TypeKind<'_, 'a>,
     right: TypeKind<'_, 'a>,
-) -> Result<StaticType<'a>, ExpressionFault>
+) -> Result<StaticType<'a>, TypeFault>
     ensures row { Answers result (of_numbers (leaf_view given.entry) (kind_view left.entry) (kind_view right.entry)) }
     ensures memory { TakesNoMemory result }
 {
     match (left, right) {
         (TypeKind::Leaf(Leaf::Long), TypeKind::Leaf(Leaf::Long)) => Ok(StaticType::Leaf(given)),
-        _ => Err(ExpressionFault::Unexpected),
+        _ => Err(TypeFault::Unexpected),
     }
 }
 
 /// Returns the type of `contains` on operands of this kind and this type. Returns `Unexpected` if the left one is not a
 /// set, else `NoCommonType` if its members and the right one have no common type.
-fn contains_of<'a>(
+fn type_containment<'a>(
     left: TypeKind<'_, 'a>,
     right: Part<'_, 'a>,
-) -> Result<StaticType<'a>, ExpressionFault>
+) -> Result<StaticType<'a>, TypeFault>
     ensures row { Answers result (contains_type (kind_view left.entry) (part_view right.entry)) }
     ensures memory { TakesNoMemory result }
 {
     match left {
         TypeKind::Set(member) => if_common(member, right),
-        TypeKind::Leaf(_) | TypeKind::Record(_) => Err(ExpressionFault::Unexpected),
+        TypeKind::Leaf(_) | TypeKind::Record(_) => Err(TypeFault::Unexpected),
     }
 }
 
 /// Returns the type of `containsAll` or `containsAny` on operands of these kinds. Returns `Unexpected` if either is not
 /// a set, else `NoCommonType` if their members have no common type.
-fn sets_of<'a>(
-    left: TypeKind<'_, 'a>,
-    right: TypeKind<'_, 'a>,
-) -> Result<StaticType<'a>, ExpressionFault>
+fn sets_of<'a>(left: TypeKind<'_, 'a>, right: TypeKind<'_, 'a>) -> Result<StaticType<'a>, TypeFault>
     ensures row { Answers result (sets_type (kind_view left.entry) (kind_view right.entry)) }
     ensures memory { TakesNoMemory result }
 {
     match right {
-        TypeKind::Set(member) => contains_of(left, member),
-        TypeKind::Leaf(_) | TypeKind::Record(_) => Err(ExpressionFault::Unexpected),
+        TypeKind::Set(member) => type_containment(left, member),
+        TypeKind::Leaf(_) | TypeKind::Record(_) => Err(TypeFault::Unexpected),
     }
 }
 
@@ -263,7 +257,7 @@ fn sets_of<'a>(
 /// # Errors
 ///
 /// - `Unexpected`: the operand is not of the type ipaddr.
-pub fn address_test_type<'a>(operand: StaticType<'a>) -> Result<StaticType<'a>, ExpressionFault>
+pub fn address_test_type<'a>(operand: StaticType<'a>) -> Result<StaticType<'a>, TypeFault>
     ensures row { Answers result (address_test_type (static_view operand.entry)) }
     ensures memory { TakesNoMemory result }
 {
@@ -273,13 +267,13 @@ pub fn address_test_type<'a>(operand: StaticType<'a>) -> Result<StaticType<'a>, 
 }
 
 /// Returns the type of a test of an IP address on an operand of this kind, or `Unexpected`.
-fn address_test_of<'a>(operand: TypeKind<'_, 'a>) -> Result<StaticType<'a>, ExpressionFault>
+fn address_test_of<'a>(operand: TypeKind<'_, 'a>) -> Result<StaticType<'a>, TypeFault>
     ensures row { Answers result (address_test_type (kind_view operand.entry)) }
     ensures memory { TakesNoMemory result }
 {
     match operand {
         TypeKind::Leaf(Leaf::Ipaddr) => Ok(StaticType::boolean(BooleanType::Either)),
-        _ => Err(ExpressionFault::Unexpected),
+        _ => Err(TypeFault::Unexpected),
     }
 }
 
@@ -292,11 +286,11 @@ pub fn call_type<'a>(
     called: BinaryCall,
     left: StaticType<'a>,
     right: StaticType<'a>,
-) -> Result<StaticType<'a>, ExpressionFault>
+) -> Result<StaticType<'a>, TypeFault>
     ensures row { Answers result (call_type called (static_view left.entry) (static_view right.entry)) }
     ensures memory { TakesNoMemory result }
 {
-    let row = call_of(
+    let row = type_method_call(
         called,
         Part::Built(&left).kind(),
         Part::Built(&right).kind(),
@@ -321,11 +315,11 @@ fn is_ipaddr(kind: TypeKind<'_, '_>) -> bool
 }
 
 /// Returns the type of a call of an extension's method on operands of these kinds, or `Unexpected`.
-fn call_of<'a>(
+fn type_method_call<'a>(
     called: BinaryCall,
     left: TypeKind<'_, 'a>,
     right: TypeKind<'_, 'a>,
-) -> Result<StaticType<'a>, ExpressionFault>
+) -> Result<StaticType<'a>, TypeFault>
     ensures row { Answers result (call_type called (kind_view left.entry) (kind_view right.entry)) }
     ensures memory { TakesNoMemory result }
 {
@@ -339,6 +333,6 @@ fn call_of<'a>(
     if fits {
         Ok(StaticType::boolean(BooleanType::Either))
     } else {
-        Err(ExpressionFault::Unexpected)
+        Err(TypeFault::Unexpected)
     }
 }

@@ -123,8 +123,8 @@ impl<'r, 'a> Fields<'r, 'a> {
             ≡ before result (fields_after (suc at) (fields_view self.entry)) }
     {
         match self {
-            Fields::Built(fields) => built_at(fields, at),
-            Fields::Declared(fields) => declared_at(fields, at),
+            Fields::Built(fields) => built_field_at(fields, at),
+            Fields::Declared(fields) => declared_field_at(fields, at),
         }
     }
 }
@@ -144,7 +144,7 @@ fn declared_len(fields: &[(Text, CedarType, bool)]) -> usize
 }
 
 /// Returns the field at an index of fields that an expression built, or `None` past the end.
-fn built_at<'r, 'a>(
+fn built_field_at<'r, 'a>(
     fields: &'r [(&'a str, StaticType<'a>, bool)],
     at: usize,
 ) -> Option<FieldPart<'r, 'a>>
@@ -162,7 +162,7 @@ fn built_at<'r, 'a>(
 }
 
 /// Returns the field at an index of declared fields, or `None` past the end.
-fn declared_at<'r, 'a>(
+fn declared_field_at<'r, 'a>(
     fields: &'a [(Text, CedarType, bool)],
     at: usize,
 ) -> Option<FieldPart<'r, 'a>>

@@ -13,17 +13,17 @@ ghost use Rattle.type_checker.specs.inner.RepeatedOperand.{RepeatsTestedOperand,
 
 use crate::environment::TypingEnvironment;
 use crate::equal::same_expr;
-use crate::fault::ExpressionFault;
 use crate::literals::decided_by_literals;
 use crate::operators::binary_type;
 use crate::static_type::{Leaf, StaticType};
 use crate::typed::{Typed, typed_row};
 use grammar_core::{Binary, Expr, Unary};
 use std::alloc::Global;
+use typing::TypeFault;
 use values::TypeName;
 
 /// Returns whether a test has a type, and a value of this type may be true.
-fn result_may_be_true(test: &Result<Typed<'_>, ExpressionFault>) -> bool
+fn result_may_be_true(test: &Result<Typed<'_>, TypeFault>) -> bool
     ensures { IsTrue result → MayBeTrueResult test.now }
 {
     match test {
@@ -51,7 +51,7 @@ fn is_undecided_by_literals<'a>(
 /// on `again` and `other`.
 fn repeats_tested_operand<'a>(
     env: TypingEnvironment<'a>,
-    test: &Result<Typed<'a>, ExpressionFault>,
+    test: &Result<Typed<'a>, TypeFault>,
     operand: &'a Expr,
     operator: Binary,
     again: &'a Expr,
@@ -75,7 +75,7 @@ fn repeats_tested_operand<'a>(
 #[tactic(auto, using(crate::proofs::AskedLemmas::asks_again))]
 pub(crate) fn tested_operand_type<'a>(
     env: TypingEnvironment<'a>,
-    test: &Result<Typed<'a>, ExpressionFault>,
+    test: &Result<Typed<'a>, TypeFault>,
     left: &'a Expr,
     operator: Binary,
     again: &'a Expr,
@@ -110,8 +110,8 @@ pub(crate) fn repeated_operand_typed<'a>(
     env: TypingEnvironment<'a>,
     operator: Binary,
     name: &'a TypeName,
-    other: Result<Typed<'a>, ExpressionFault>,
-) -> Result<Typed<'a>, ExpressionFault>
+    other: Result<Typed<'a>, TypeFault>,
+) -> Result<Typed<'a>, TypeFault>
     ensures { let E = typing_environment env.entry in
         (K L after : CapabilityList) (a b : Expr) → UndecidedByLiterals E operator a b
         → Types E K a (types.entity_type name.entry.now) L → Judged E K b other.entry after

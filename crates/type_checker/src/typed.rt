@@ -5,12 +5,12 @@ ghost use Rattle.typing.specs.Rows.{MayBeTrue};
 ghost use Rattle.type_checker.specs.Views.{boolean_view};
 ghost use Rattle.type_checker.specs.inner.Judged.{IsRow, AddsGained, IsBranch};
 
-use crate::fault::ExpressionFault;
 use crate::known::gain_too;
 use crate::static_type::{BooleanType, StaticType};
 use plain::NoMemory;
 use std::alloc::Global;
 use type_capabilities::Capability;
+use typing::TypeFault;
 
 /// The type of an expression, and the capabilities that it gains.
 #[derive(Drop)]
@@ -84,8 +84,8 @@ pub(crate) fn plain<'a>(alloc: Global, kind: StaticType<'a>) -> Typed<'a>
 /// Returns the type in `row` without gained capabilities, or the error in `row`.
 pub(crate) fn typed_row<'a>(
     alloc: Global,
-    row: Result<StaticType<'a>, ExpressionFault>,
-) -> Result<Typed<'a>, ExpressionFault>
+    row: Result<StaticType<'a>, TypeFault>,
+) -> Result<Typed<'a>, TypeFault>
     ensures { IsRow row.entry result }
 {
     match row {
@@ -97,8 +97,8 @@ pub(crate) fn typed_row<'a>(
 /// Returns the judgement `typed` with the capabilities `gains` in front of its own.
 pub(crate) fn gained_too<'a>(
     gains: Vec<Capability<'a>>,
-    typed: Result<Typed<'a>, ExpressionFault>,
-) -> Result<Typed<'a>, ExpressionFault>
+    typed: Result<Typed<'a>, TypeFault>,
+) -> Result<Typed<'a>, TypeFault>
     ensures { AddsGained gains.entry.items typed.entry result }
 {
     let Typed { kind, gains: own } = typed?;
@@ -108,9 +108,7 @@ pub(crate) fn gained_too<'a>(
 }
 
 /// Returns the type in `typed` as that of `then`, the only branch that is typed, or the error in `typed`.
-pub(crate) fn only<'a>(
-    typed: Result<Typed<'a>, ExpressionFault>,
-) -> Result<Then<'a>, ExpressionFault>
+pub(crate) fn only<'a>(typed: Result<Typed<'a>, TypeFault>) -> Result<Then<'a>, TypeFault>
     ensures { IsBranch (λ t. Then.Only t) typed.entry result }
 {
     match typed {
@@ -120,9 +118,7 @@ pub(crate) fn only<'a>(
 }
 
 /// Returns the type in `typed` as that of `then`, the first of two branches that are typed, or the error in `typed`.
-pub(crate) fn both<'a>(
-    typed: Result<Typed<'a>, ExpressionFault>,
-) -> Result<Then<'a>, ExpressionFault>
+pub(crate) fn both<'a>(typed: Result<Typed<'a>, TypeFault>) -> Result<Then<'a>, TypeFault>
     ensures { IsBranch (λ t. Then.Both t) typed.entry result }
 {
     match typed {

@@ -2,17 +2,17 @@
 ghost use Rattle.std.specs.Prelude.{◌≢◌, IfOk, IfErr};
 ghost use Rattle.typing.specs.Typing.{Types};
 ghost use Rattle.typing.specs.Faults.{Faults};
-ghost use Rattle.type_checker.specs.Views.{static_view, fault_view, typing_environment};
+ghost use Rattle.type_checker.specs.Views.{static_view, typing_environment};
 ghost use Rattle.type_capabilities.specs.CapabilityList.{capabilities};
 
 use crate::environment::TypingEnvironment;
-use crate::fault::ExpressionFault;
 use crate::judging::type_of;
 use crate::known::stacked;
 use crate::typed::Typed;
 use grammar_core::Expr;
 use std::alloc::Global;
 use type_capabilities::Capability;
+use typing::TypeFault;
 
 /// Returns the type of an expression under these known capabilities, with the capabilities that it gains.
 ///
@@ -27,11 +27,11 @@ pub fn judge_under<'a>(
     env: TypingEnvironment<'a>,
     known: &[Capability<'a>],
     expr: &'a Expr,
-) -> Result<Typed<'a>, ExpressionFault>
+) -> Result<Typed<'a>, TypeFault>
     ensures typed { IfOk result (λ t. Types (typing_environment env.entry) (capabilities known.now) expr.entry.now
         (static_view t.kind) (capabilities t.gains.items)) }
-    ensures faulty { IfErr result (λ f. f ≢ ExpressionFault.NoMemory
-        → Faults (typing_environment env.entry) (capabilities known.now) expr.entry.now (fault_view f)) }
+    ensures faulty { IfErr result (λ f. f ≢ TypeFault.NoMemory
+        → Faults (typing_environment env.entry) (capabilities known.now) expr.entry.now f) }
 {
     let mut stack = stacked(alloc, known)?;
     type_of(alloc, expr, env, &mut stack)

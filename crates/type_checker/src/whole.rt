@@ -3,11 +3,10 @@ ghost use Rattle.std.specs.Prelude.{◌≢◌, [], IfOk, IfErr};
 ghost use Rattle.typing.specs.Gained.{CapabilityList};
 ghost use Rattle.typing.specs.Typing.{Types};
 ghost use Rattle.typing.specs.Faults.{Faults};
-ghost use Rattle.type_checker.specs.Views.{static_view, fault_view, typing_environment};
+ghost use Rattle.type_checker.specs.Views.{static_view, typing_environment};
 ghost use Rattle.type_checker.specs.Conjunctions.{joined};
 
 use crate::environment::TypingEnvironment;
-use crate::fault::ExpressionFault;
 use crate::joining::{and_last, and_one_more, left_type};
 use crate::judging::type_of;
 use crate::static_type::{BooleanType, StaticType};
@@ -15,6 +14,7 @@ use crate::typed::is_right_checked;
 use grammar_core::Expr;
 use std::alloc::Global;
 use type_capabilities::Capabilities;
+use typing::TypeFault;
 
 /// Returns the type of the conjunction of `parts` and `last`, grouped to the right as in `a && (b && last)`, without
 /// known capabilities. Without parts it is the type of `last`.
@@ -38,11 +38,11 @@ pub fn judge_all<'a>(
     env: TypingEnvironment<'a>,
     parts: &'a [Expr],
     last: &'a Expr,
-) -> Result<StaticType<'a>, ExpressionFault>
+) -> Result<StaticType<'a>, TypeFault>
     ensures typed { IfOk result (λ t. (L : CapabilityList)
         × Types (typing_environment env.entry) [] (joined parts.entry.now last.entry.now) (static_view t) L) }
-    ensures faulty { IfErr result (λ f. f ≢ ExpressionFault.NoMemory
-        → Faults (typing_environment env.entry) [] (joined parts.entry.now last.entry.now) (fault_view f)) }
+    ensures faulty { IfErr result (λ f. f ≢ TypeFault.NoMemory
+        → Faults (typing_environment env.entry) [] (joined parts.entry.now last.entry.now) f) }
 {
     let mut known = Capabilities::new(alloc);
     let mut so_far = None;

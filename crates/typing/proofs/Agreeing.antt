@@ -13,8 +13,9 @@ use Rattle.values.specs.extensions.Decided.{Decided, is_proved}
 use Rattle.evaluator.specs.Operators.{TakesAddress}
 use Rattle.typing.specs.Types
 use Rattle.typing.specs.Types.{StaticType, IsBoolean}
-use Rattle.typing.specs.Environment
-use Rattle.typing.specs.Environment.{Environment, ExpressionFault}
+use Rattle.typing.specs.Environment.{Environment}
+use Rattle.typing.specs.declared.fault.TypeFault.{TypeFault}
+use Rattle.typing.specs.declared.fault.TypeFault.TheVariants as fault
 use Rattle.typing.specs.Gained.{CapabilityList, has_gains}
 use Rattle.typing.specs.Literals
 use Rattle.typing.specs.Literals.{UndecidedByLiterals, ReadsLiteral, TakesText}
@@ -38,7 +39,7 @@ boolean_is Types.is_true r = refl
 boolean_is Types.is_false r = refl
 boolean_is Types.is_either r = refl
 
-no_boolean_is : (t : StaticType) → ¬ IsBoolean t → (r : Judgement) → Judging.test_of t r ≡ faulty Environment.unexpected
+no_boolean_is : (t : StaticType) → ¬ IsBoolean t → (r : Judgement) → Judging.test_of t r ≡ faulty fault.Unexpected
 no_boolean_is Types.true_type n r = absurd (n Types.is_true)
 no_boolean_is Types.false_type n r = absurd (n Types.is_false)
 no_boolean_is Types.boolean_type n r = absurd (n Types.is_either)
@@ -48,34 +49,34 @@ and_left_is : {s : StaticType} → Rows.MayBeTrue s → (L : CapabilityList) (r 
 and_left_is Rows.surely L r = refl
 and_left_is Rows.perhaps L r = refl
 
-and_no_left_is : (s : StaticType) → ¬ IsBoolean s → (L : CapabilityList) (r : Judgement) → Judging.and_typed s L r ≡ faulty Environment.unexpected
+and_no_left_is : (s : StaticType) → ¬ IsBoolean s → (L : CapabilityList) (r : Judgement) → Judging.and_typed s L r ≡ faulty fault.Unexpected
 and_no_left_is Types.true_type n L r = absurd (n Types.is_true)
 and_no_left_is Types.false_type n L r = absurd (n Types.is_false)
 and_no_left_is Types.boolean_type n L r = absurd (n Types.is_either)
 and_no_left_is s n L r = refl
 
-or_no_left_is : (s : StaticType) → ¬ IsBoolean s → (L : CapabilityList) (r : Judgement) → Judging.or_typed s L r ≡ faulty Environment.unexpected
+or_no_left_is : (s : StaticType) → ¬ IsBoolean s → (L : CapabilityList) (r : Judgement) → Judging.or_typed s L r ≡ faulty fault.Unexpected
 or_no_left_is Types.true_type n L r = absurd (n Types.is_true)
 or_no_left_is Types.false_type n L r = absurd (n Types.is_false)
 or_no_left_is Types.boolean_type n L r = absurd (n Types.is_either)
 or_no_left_is s n L r = refl
 
-or_fault_is : {s : StaticType} → Rows.MayBeFalse s → (L : CapabilityList) (n : ExpressionFault) → Judging.or_typed s L (faulty n) ≡ faulty n
+or_fault_is : {s : StaticType} → Rows.MayBeFalse s → (L : CapabilityList) (n : TypeFault) → Judging.or_typed s L (faulty n) ≡ faulty n
 or_fault_is Rows.surely_not L n = refl
 or_fault_is Rows.perhaps_not L n = refl
 
 or_no_right_is : {s : StaticType} (t : StaticType) → Rows.MayBeFalse s → ¬ IsBoolean t → (L M : CapabilityList)
-    → Judging.or_typed s L (typed t M) ≡ faulty Environment.unexpected
+    → Judging.or_typed s L (typed t M) ≡ faulty fault.Unexpected
 or_no_right_is t Rows.surely_not b L M = no_boolean_is t b (typed t M)
 or_no_right_is t Rows.perhaps_not b L M = no_boolean_is t b (typed (Rows.or_type t) (KnownPairs.or_learns t L M))
 
-if_no_test_is : (s : StaticType) → ¬ IsBoolean s → (L : CapabilityList) (r p : Judgement) → Judging.if_typed s L r p ≡ faulty Environment.unexpected
+if_no_test_is : (s : StaticType) → ¬ IsBoolean s → (L : CapabilityList) (r p : Judgement) → Judging.if_typed s L r p ≡ faulty fault.Unexpected
 if_no_test_is Types.true_type n L r p = absurd (n Types.is_true)
 if_no_test_is Types.false_type n L r p = absurd (n Types.is_false)
 if_no_test_is Types.boolean_type n L r p = absurd (n Types.is_either)
 if_no_test_is s n L r p = refl
 
-if_fault_is : {s : StaticType} → Rows.MayBeTrue s → (L : CapabilityList) (n : ExpressionFault) (p : Judgement) → Judging.if_typed s L (faulty n) p ≡ faulty n
+if_fault_is : {s : StaticType} → Rows.MayBeTrue s → (L : CapabilityList) (n : TypeFault) (p : Judgement) → Judging.if_typed s L (faulty n) p ≡ faulty n
 if_fault_is Rows.surely L n p = refl
 if_fault_is Rows.perhaps L n p = refl
 
@@ -98,13 +99,13 @@ literal_is {called} {x} {t} s h =
     ∙ literal_read s h
 
 no_literal_read : (called : UnaryCall) (s : StaticType) → TakesText called
-    → Judging.unary_call_type called false s ≡ Err Environment.bad_extension_literal
+    → Judging.unary_call_type called false s ≡ Err fault.BadExtensionLiteral
 no_literal_read unary_call.Ip s h = refl
 no_literal_read unary_call.Decimal s h = refl
 no_literal_read called s h = absurd h
 
 no_literal_is : (called : UnaryCall) (x : Expr) (s : StaticType) → TakesText called → ((t : StaticType) → ¬ ReadsLiteral called x t)
-    → Judging.unary_call_type called (Tests.reads called x) s ≡ Err Environment.bad_extension_literal
+    → Judging.unary_call_type called (Tests.reads called x) s ≡ Err fault.BadExtensionLiteral
 no_literal_is called x s h n =
     ap (λ b. Judging.unary_call_type called b s) (told_not (Tests.reading_known called x) (n (Tests.type_read called))) ∙ no_literal_read called s h
 
@@ -198,7 +199,7 @@ module _ (env : Environment) where
 
   mutual
     -- the function gives the fault that the rules do
-    pub faults_is : {K : CapabilityList} {x : Expr} {n : ExpressionFault} → Faults env K x n → all K x ≡ faulty n
+    pub faults_is : {K : CapabilityList} {x : Expr} {n : TypeFault} → Faults env K x n → all K x ≡ faulty n
     faults_is (Faults.fault_in_operand {K} (Faults.of_unary op a) (Faults.fault_here h)) = unary_from K op a _ (faults_is h)
     faults_is (Faults.fault_in_operand {K} (Faults.of_binary op a b n) (Faults.fault_here h)) = operands_from K op a b _ n (faults_is h)
     faults_is (Faults.fault_in_operand {K} (Faults.of_binary op a b n) (Faults.fault_later {L} {t = s} h (Faults.fault_here g))) =
@@ -250,7 +251,7 @@ module _ (env : Environment) where
     faults_is (Faults.fault_of_call {K} {L} called a b {s} h g e) =
         call_from K called a b _ (types_is h) ∙ (ap (Judging.call_with env called (typed s L)) (types_is g) ∙ ap (typed_row Judging.learns_none) e)
 
-    each_faults_is : {K : CapabilityList} {xs : List Expr} {n : ExpressionFault} → FaultsEach env K xs n → Judging.each_of env (map (all K) xs) ≡ Err n
+    each_faults_is : {K : CapabilityList} {xs : List Expr} {n : TypeFault} → FaultsEach env K xs n → Judging.each_of env (map (all K) xs) ≡ Err n
     each_faults_is (Faults.fault_here {K} {x} {xs} h) = ap (λ r. Judging.member_type r (Judging.each_of env (map (all K) xs))) (faults_is h)
     each_faults_is (Faults.fault_later {K} {L} {x} {xs} {t} h hs) =
         ap (λ r. Judging.member_type r (Judging.each_of env (map (all K) xs))) (types_is h) ∙ ap (Judging.member_type (typed t L)) (each_faults_is hs)

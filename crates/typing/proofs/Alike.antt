@@ -4,7 +4,8 @@ use Rattle.std.specs.Bool.{Decides}
 use Rattle.std.proofs.Common.{inl, inr, sym, subst}
 use Rattle.grammar_core.specs.declared.expr.Expr.{Expr}
 use Rattle.typing.specs.Types.{StaticType}
-use Rattle.typing.specs.Environment.{Environment, ExpressionFault}
+use Rattle.typing.specs.Environment.{Environment}
+use Rattle.typing.specs.declared.fault.TypeFault.{TypeFault}
 use Rattle.typing.specs.Gained
 use Rattle.typing.specs.Gained.{Capability, CapabilityList, InBoth, OrGains, has_gains}
 use Rattle.typing.specs.Typing
@@ -126,7 +127,7 @@ module _ (env : Environment) where
     each_alike s (Typing.types_more h hs) = Typing.types_more (types_alike s h).2 (each_alike s hs)
 
   mutual
-    faults_alike : {K M : CapabilityList} {x : Expr} {n : ExpressionFault} → AreSameCapabilities K M → Faults env K x n → Faults env M x n
+    faults_alike : {K M : CapabilityList} {x : Expr} {n : TypeFault} → AreSameCapabilities K M → Faults env K x n → Faults env M x n
     faults_alike s (Faults.fault_in_operand o h) = Faults.fault_in_operand o (faults_each_alike s h)
     faults_alike s (Faults.fault_of_unary op a h e) = Faults.fault_of_unary op a (types_alike s h).2 e
     faults_alike s (Faults.fault_of_binary op a b n h g e) = Faults.fault_of_binary op a b n (types_alike s h).2 (types_alike s g).2 e
@@ -156,7 +157,7 @@ module _ (env : Environment) where
     faults_alike s (Faults.branches_differ a b c h g i e) =
         let f = types_alike s h in Faults.branches_differ a b c f.2 (types_alike (joined s f.1) g).2 (types_alike s i).2 e
 
-    faults_each_alike : {K M : CapabilityList} {xs : List Expr} {n : ExpressionFault} → AreSameCapabilities K M → FaultsEach env K xs n → FaultsEach env M xs n
+    faults_each_alike : {K M : CapabilityList} {xs : List Expr} {n : TypeFault} → AreSameCapabilities K M → FaultsEach env K xs n → FaultsEach env M xs n
     faults_each_alike s (Faults.fault_here h) = Faults.fault_here (faults_alike s h)
     faults_each_alike s (Faults.fault_later h g) = Faults.fault_later (types_alike s h).2 (faults_each_alike s g)
 

@@ -14,8 +14,9 @@ use Rattle.values.specs.extensions.Decided.{Decided, is_proved}
 use Rattle.evaluator.specs.Operators.{TakesAddress}
 use Rattle.typing.specs.Types
 use Rattle.typing.specs.Types.{StaticType, IsBoolean}
-use Rattle.typing.specs.Environment
-use Rattle.typing.specs.Environment.{Environment, ExpressionFault}
+use Rattle.typing.specs.Environment.{Environment}
+use Rattle.typing.specs.declared.fault.TypeFault.{TypeFault}
+use Rattle.typing.specs.declared.fault.TypeFault.TheVariants as fault
 use Rattle.typing.specs.Gained.{CapabilityList, has_gains}
 use Rattle.typing.specs.Literals.{ReadsLiteral, TakesText}
 use Rattle.typing.specs.Rows
@@ -40,7 +41,7 @@ module _ (env : Environment) where
   Holds = Judges env
 
   row_case : (K : CapabilityList) (x : Expr) (f : StaticType → CapabilityList) (r : Row) → ((t : StaticType) → r ≡ Ok t → Types env K x t (f t))
-      → ((n : ExpressionFault) → r ≡ Err n → Faults env K x n) → Holds K x (Judging.row r f)
+      → ((n : TypeFault) → r ≡ Err n → Faults env K x n) → Holds K x (Judging.row r f)
   row_case K x f (Ok t) g h = g t refl
   row_case K x f (Err n) g h = h n refl
 
@@ -77,7 +78,7 @@ module _ (env : Environment) where
 
   -- a side of `&&` or `||`, which has to be a boolean
   test_case : (K : CapabilityList) (x : Expr) (t u : StaticType) (L : CapabilityList) → (IsBoolean t → Types env K x u L)
-      → (¬ IsBoolean t → Faults env K x Environment.unexpected) → Holds K x (Judging.test_of t (typed u L))
+      → (¬ IsBoolean t → Faults env K x fault.Unexpected) → Holds K x (Judging.test_of t (typed u L))
   test_case K x Types.true_type u L g h = g Types.is_true
   test_case K x Types.false_type u L g h = g Types.is_false
   test_case K x Types.boolean_type u L g h = g Types.is_either
@@ -159,25 +160,25 @@ module _ (env : Environment) where
   if_case K a b c (typed s L) h g i = if_test_case K a b c s L (all (K ++ L) b) (all K c) h (g (K ++ L)) i
   if_case K a b c (faulty n) h g i = Faults.fault_in_test a b c h
 
-  HoldsEach : CapabilityList → List Expr → Result (List StaticType) ExpressionFault → Type 0
+  HoldsEach : CapabilityList → List Expr → Result (List StaticType) TypeFault → Type 0
   HoldsEach K xs (Ok ts) = TypesEach env K xs ts
   HoldsEach K xs (Err n) = FaultsEach env K xs n
 
-  each_case : (K : CapabilityList) (x : Expr) (xs : List Expr) (r : Judgement) (p : Result (List StaticType) ExpressionFault) → Holds K x r
+  each_case : (K : CapabilityList) (x : Expr) (xs : List Expr) (r : Judgement) (p : Result (List StaticType) TypeFault) → Holds K x r
       → HoldsEach K xs p → HoldsEach K (x ∷ xs) (Judging.member_type r p)
   unfolding HoldsEach
   each_case K x xs (typed t L) (Ok ts) h g = Typing.types_more h g
   each_case K x xs (typed t L) (Err n) h g = Faults.fault_later h g
   each_case K x xs (faulty n) p h g = Faults.fault_here h
 
-  set_case : (K : CapabilityList) (xs : List Expr) (p : Result (List StaticType) ExpressionFault) → HoldsEach K xs p
+  set_case : (K : CapabilityList) (xs : List Expr) (p : Result (List StaticType) TypeFault) → HoldsEach K xs p
       → Holds K (form.Set xs) (Judging.members_type p)
   unfolding HoldsEach
   set_case K xs (Ok ts) h =
       row_case K (form.Set xs) Judging.learns_none (Rows.set_literal_type ts) (λ t e. Typing.types_set xs h e) (λ n e. Faults.fault_of_set xs h e)
   set_case K xs (Err n) h = Faults.fault_in_operand (Faults.of_set xs) h
 
-  record_case : (K : CapabilityList) (xs : List (Named Expr)) (p : Result (List StaticType) ExpressionFault) → HoldsEach K (Judging.values env xs) p
+  record_case : (K : CapabilityList) (xs : List (Named Expr)) (p : Result (List StaticType) TypeFault) → HoldsEach K (Judging.values env xs) p
       → Holds K (form.Record xs) (Judging.record_typed (Judging.names env xs) p)
   unfolding HoldsEach
   record_case K xs (Ok ts) h = Typing.types_record xs h

@@ -4,7 +4,8 @@ use Rattle.std.proofs.Common.{sym, ap, ◌∙◌, subst, arith}
 use Rattle.grammar_core.specs.declared.expr.Expr.{Expr}
 use Rattle.typing.specs.Types
 use Rattle.typing.specs.Types.{StaticType, IsBoolean, true_type, false_type, boolean_type}
-use Rattle.typing.specs.Environment.{Environment, ExpressionFault}
+use Rattle.typing.specs.Environment.{Environment}
+use Rattle.typing.specs.declared.fault.TypeFault.{TypeFault}
 use Rattle.typing.specs.Gained.{CapabilityList}
 use Rattle.typing.specs.Rows
 use Rattle.typing.specs.Rows.{MayBeTrue, MayBeFalse}
@@ -23,7 +24,7 @@ typed_same e = cc
 learned_same : {s t : StaticType} {L M : CapabilityList} → typed s L ≡ typed t M → L ≡ M
 learned_same e = cc
 
-typed_not_faulty : {t : StaticType} {L : CapabilityList} {n : ExpressionFault} → typed t L ≡ faulty n → ⊥
+typed_not_faulty : {t : StaticType} {L : CapabilityList} {n : TypeFault} → typed t L ≡ faulty n → ⊥
 typed_not_faulty e = cc
 
 pub true_not_false : true_type ≡ false_type → ⊥
@@ -54,11 +55,11 @@ module _ (one : HaveOneJudgement) (env : Environment) where
   same_learned : {K L M : CapabilityList} {x : Expr} {s t : StaticType} → Types env K x s L → Types env K x t M → L ≡ M
   same_learned {K} {L} {M} {x} {s} {t} h g = learned_same (same_judgement K x (typed s L) (typed t M) h g)
 
-  pub never : {K L : CapabilityList} {x : Expr} {t : StaticType} {n : ExpressionFault} → Types env K x t L → Faults env K x n → ⊥
+  pub never : {K L : CapabilityList} {x : Expr} {t : StaticType} {n : TypeFault} → Types env K x t L → Faults env K x n → ⊥
   never {K} {L} {x} {t} {n} h g = typed_not_faulty (same_judgement K x (typed t L) (faulty n) h g)
 
   -- what is blamed of derivations with d is blamed in the operand y of index i, where the pairs of J are known
-  abbrev pub Goes : CapabilityList → Expr → ℕ → ExpressionFault → Blame → Type 0
+  abbrev pub Goes : CapabilityList → Expr → ℕ → TypeFault → Blame → Type 0
   Goes J y i n d = (g : Faults env J y n) × (d ≡ under i (blamed g))
 
   -- ---- operands in order
@@ -68,14 +69,14 @@ module _ (one : HaveOneJudgement) (env : Environment) where
   same_types (x ∷ xs) (types_more {t} {ts} h hs) (types_more {t = u} {ts = us} g gs) =
       ap (λ v. v ∷ ts) (same_type h g) ∙ ap (λ vs. u ∷ vs) (same_types xs hs gs)
 
-  pub never_each : {K : CapabilityList} (xs : List Expr) {ts : List StaticType} {n : ExpressionFault} → TypesEach env K xs ts
+  pub never_each : {K : CapabilityList} (xs : List Expr) {ts : List StaticType} {n : TypeFault} → TypesEach env K xs ts
       → FaultsEach env K xs n → ⊥
   never_each [] h g = elim g [ ]
   never_each (x ∷ xs) (types_more h hs) (faults.fault_here g) = never h g
   never_each (x ∷ xs) (types_more h hs) (faults.fault_later g gs) = never_each xs hs gs
 
   -- the first one without a type is y, behind those of `before`
-  first_faulty : {K : CapabilityList} (j : ℕ) (before rest : List Expr) (y : Expr) {ts : List StaticType} {m n : ExpressionFault}
+  first_faulty : {K : CapabilityList} (j : ℕ) (before rest : List Expr) (y : Expr) {ts : List StaticType} {m n : TypeFault}
       → TypesEach env K before ts → Faults env K y m → (h : FaultsEach env K (before ++ y ∷ rest) n)
       → Goes K y (j + length before) n (blamed_each j h)
   first_faulty j [] rest y t f (faults.fault_here g) =
@@ -93,8 +94,8 @@ module _ (one : HaveOneJudgement) (env : Environment) where
   split_typed [] rest y (types_more {L} {t} h hs) = (t, L, h)
   split_typed (x ∷ xs) rest y (types_more h hs) = split_typed xs rest y hs
 
-  pub each_goes : {K : CapabilityList} {n : ExpressionFault} {d : Blame} (before rest : List Expr) (y : Expr) (B : List StaticType → Blame)
-      {ts : List StaticType} {m : ExpressionFault} → TypesEach env K before ts → Faults env K y m
+  pub each_goes : {K : CapabilityList} {n : TypeFault} {d : Blame} (before rest : List Expr) (y : Expr) (B : List StaticType → Blame)
+      {ts : List StaticType} {m : TypeFault} → TypesEach env K before ts → Faults env K y m
       → EachFaults env K (before ++ y ∷ rest) B n d → Goes K y (length before) n d
   each_goes before rest y B t f (Layers.in_each g q) =
       let k = first_faulty 0 before rest y t f g in
@@ -102,7 +103,7 @@ module _ (one : HaveOneJudgement) (env : Environment) where
       (k.0, q ∙ (k.1 ∙ ap (λ i. under i (blamed k.0)) e))
   each_goes before rest y B t f (Layers.of_each g q) = let k = split_typed before rest y g in absurd (never k.2 f)
 
-  pub each_stops : {K : CapabilityList} {n : ExpressionFault} {d : Blame} (xs : List Expr) (B : List StaticType → Blame)
+  pub each_stops : {K : CapabilityList} {n : TypeFault} {d : Blame} (xs : List Expr) (B : List StaticType → Blame)
       {ts : List StaticType} → TypesEach env K xs ts → EachFaults env K xs B n d → d ≡ B ts
   each_stops xs B t (Layers.in_each g q) = absurd (never_each xs t g)
   each_stops xs B t (Layers.of_each g q) = q ∙ ap B (same_types xs g t)
@@ -110,7 +111,7 @@ module _ (one : HaveOneJudgement) (env : Environment) where
   -- ---- `&&`
 
   -- behind what it learns
-  behind : {K L M : CapabilityList} {a b : Expr} {s t : StaticType} {n : ExpressionFault} → Types env K a s L → Types env K a t M
+  behind : {K L M : CapabilityList} {a b : Expr} {s t : StaticType} {n : TypeFault} → Types env K a s L → Types env K a t M
       → (g : Faults env (K ++ M) b n) → Goes (K ++ L) b 1 n (under 1 (blamed g))
   behind {K} {L} {M} {a} {b} {s} {t} {n} h i g = moved (same_learned h i) g
     where
@@ -118,7 +119,7 @@ module _ (one : HaveOneJudgement) (env : Environment) where
       moved {N} e = let P : CapabilityList → Type 0 = λ N. (k : Faults env (K ++ N) b n) → Goes (K ++ L) b 1 n (under 1 (blamed k)) in
           subst P e (λ k. (k, refl))
 
-  never_behind : {K L M N : CapabilityList} {a b : Expr} {s t u : StaticType} {n : ExpressionFault} → Types env K a s L → Types env K a t M
+  never_behind : {K L M N : CapabilityList} {a b : Expr} {s t u : StaticType} {n : TypeFault} → Types env K a s L → Types env K a t M
       → Types env (K ++ L) b u N → Faults env (K ++ M) b n → ⊥
   never_behind {K} {L} {M} {N} {a} {b} {s} {t} {u} {n} h i g f =
       never g (subst (λ P. Faults env (K ++ P) b n) (sym (same_learned h i)) f)
@@ -128,8 +129,8 @@ module _ (one : HaveOneJudgement) (env : Environment) where
   same_behind {K} {L} {M} {N} {P} {a} {b} {s} {t} {u} {v} h i g f =
       same_type g (subst (λ Q. Types env (K ++ Q) b v P) (sym (same_learned h i)) f)
 
-  module _ {K : CapabilityList} {n : ExpressionFault} {d : Blame} (x a b : Expr) where
-    pub and_goes_left : {m : ExpressionFault} → Faults env K a m → AndFaults env K x a b n d → Goes K a 0 n d
+  module _ {K : CapabilityList} {n : TypeFault} {d : Blame} (x a b : Expr) where
+    pub and_goes_left : {m : TypeFault} → Faults env K a m → AndFaults env K x a b n d → Goes K a 0 n d
     and_goes_left f (Layers.and_in_left g q) = (g, q)
     and_goes_left f (Layers.and_left h i q) = absurd (never h f)
     and_goes_left f (Layers.and_in_right h m g q) = absurd (never h f)
@@ -144,7 +145,7 @@ module _ (one : HaveOneJudgement) (env : Environment) where
     and_stops_left t i (Layers.and_right h m g q) =
         absurd (i (subst IsBoolean (same_type h t) (may_be_true_boolean m)))
 
-    pub and_is_sound : {s : StaticType} {L : CapabilityList} {m : ExpressionFault} → Types env K a s L → IsBoolean s
+    pub and_is_sound : {s : StaticType} {L : CapabilityList} {m : TypeFault} → Types env K a s L → IsBoolean s
         → Faults env (K ++ L) b m → AndFaults env K x a b n d → Goes (K ++ L) b 1 n d
     and_is_sound t i f (Layers.and_in_left g q) = absurd (never t g)
     and_is_sound t i f (Layers.and_left h j q) = absurd (j (subst IsBoolean (same_type t h) i))
@@ -160,7 +161,7 @@ module _ (one : HaveOneJudgement) (env : Environment) where
 
     -- ---- `||`
 
-    pub or_goes_left : {m : ExpressionFault} → Faults env K a m → OrFaults env K x a b n d → Goes K a 0 n d
+    pub or_goes_left : {m : TypeFault} → Faults env K a m → OrFaults env K x a b n d → Goes K a 0 n d
     or_goes_left f (Layers.or_in_left g q) = (g, q)
     or_goes_left f (Layers.or_left h i q) = absurd (never h f)
     or_goes_left f (Layers.or_in_right h m g q) = absurd (never h f)
@@ -175,7 +176,7 @@ module _ (one : HaveOneJudgement) (env : Environment) where
     or_stops_left t i (Layers.or_right h m g q) =
         absurd (i (subst IsBoolean (same_type h t) (may_be_false_boolean m)))
 
-    pub or_is_sound : {s : StaticType} {L : CapabilityList} {m : ExpressionFault} → Types env K a s L → IsBoolean s
+    pub or_is_sound : {s : StaticType} {L : CapabilityList} {m : TypeFault} → Types env K a s L → IsBoolean s
         → Faults env K b m → OrFaults env K x a b n d → Goes K b 1 n d
     or_is_sound t i f (Layers.or_in_left g q) = absurd (never t g)
     or_is_sound t i f (Layers.or_left h j q) = absurd (j (subst IsBoolean (same_type t h) i))
@@ -191,8 +192,8 @@ module _ (one : HaveOneJudgement) (env : Environment) where
 
   -- ---- `if`
 
-  module _ {K : CapabilityList} {n : ExpressionFault} {d : Blame} (x a b c : Expr) where
-    pub if_goes_test : {m : ExpressionFault} → Faults env K a m → IfFaults env K x a b c n d → Goes K a 0 n d
+  module _ {K : CapabilityList} {n : TypeFault} {d : Blame} (x a b c : Expr) where
+    pub if_goes_test : {m : TypeFault} → Faults env K a m → IfFaults env K x a b c n d → Goes K a 0 n d
     if_goes_test f (Layers.if_in_test g q) = (g, q)
     if_goes_test f (Layers.if_test h i q) = absurd (never h f)
     if_goes_test f (Layers.if_in_then h m g q) = absurd (never h f)
@@ -219,7 +220,7 @@ module _ (one : HaveOneJudgement) (env : Environment) where
     if_goes_only_else t (Layers.if_branches h g k q) = absurd (either_not_false (same_type h t))
 
     -- it may be true
-    pub if_goes_then : {s : StaticType} {L : CapabilityList} {m : ExpressionFault} → Types env K a s L → IsBoolean s → ¬ (s ≡ false_type)
+    pub if_goes_then : {s : StaticType} {L : CapabilityList} {m : TypeFault} → Types env K a s L → IsBoolean s → ¬ (s ≡ false_type)
         → Faults env (K ++ L) b m → IfFaults env K x a b c n d → Goes (K ++ L) b 1 n d
     if_goes_then t i r f (Layers.if_in_test g q) = absurd (never t g)
     if_goes_then t i r f (Layers.if_test h j q) = absurd (j (subst IsBoolean (same_type t h) i))
@@ -229,7 +230,7 @@ module _ (one : HaveOneJudgement) (env : Environment) where
     if_goes_then t i r f (Layers.if_branches h k g q) = absurd (never_behind h t k f)
 
     pub if_goes_else : {s u : StaticType} {L M : CapabilityList} → Types env K a s L → IsBoolean s → ¬ (s ≡ false_type)
-        → Types env (K ++ L) b u M → {m : ExpressionFault} → Faults env K c m → IfFaults env K x a b c n d → Goes K c 2 n d
+        → Types env (K ++ L) b u M → {m : TypeFault} → Faults env K c m → IfFaults env K x a b c n d → Goes K c 2 n d
     if_goes_else t i r v f (Layers.if_in_test g q) = absurd (never t g)
     if_goes_else t i r v f (Layers.if_test h j q) = absurd (j (subst IsBoolean (same_type t h) i))
     if_goes_else t i r v f (Layers.if_in_then h m g q) = absurd (never_behind t h v g)

@@ -20,8 +20,9 @@ use Rattle.grammar_core.specs.declared.expr.Expr.TheOpen.{Expr-F}
 use Rattle.grammar_core.specs.declared.expr.Expr.TheFolds.{map-Expr, fold-Expr}
 use Rattle.typing.specs.Types
 use Rattle.typing.specs.Types.{StaticType}
-use Rattle.typing.specs.Environment
-use Rattle.typing.specs.Environment.{Environment, ExpressionFault}
+use Rattle.typing.specs.Environment.{Environment}
+use Rattle.typing.specs.declared.fault.TypeFault.{TypeFault}
+use Rattle.typing.specs.declared.fault.TypeFault.TheVariants as fault
 use Rattle.typing.specs.Gained.{CapabilityList, has_gains}
 use Rattle.typing.specs.Rows
 use Rattle.typing.specs.Rows.{Row}
@@ -47,7 +48,7 @@ abbrev pub test_of : StaticType → Judgement → Judgement
 test_of Types.true_type r = r
 test_of Types.false_type r = r
 test_of Types.boolean_type r = r
-test_of t r = faulty Environment.unexpected
+test_of t r = faulty fault.Unexpected
 
 abbrev pub and_right : StaticType → CapabilityList → Judgement → Judgement
 and_right s L r = on_typed r (λ t M. test_of t (typed (Rows.and_type s t) (L ++ M)))
@@ -61,10 +62,10 @@ abbrev pub or_typed : StaticType → CapabilityList → Judgement → Judgement
 or_typed Types.true_type L r = typed Types.true_type []
 or_typed Types.false_type L r = on_typed r (λ t M. test_of t (typed t M))
 or_typed Types.boolean_type L r = on_typed r (λ t M. test_of t (typed (Rows.or_type t) (or_learns t L M)))
-or_typed s L r = faulty Environment.unexpected
+or_typed s L r = faulty fault.Unexpected
 
 abbrev pub branches : Option StaticType → CapabilityList → Judgement
-branches None L = faulty Environment.no_common_type
+branches None L = faulty fault.NoCommonType
 branches (Some u) L = typed u L
 
 abbrev pub if_typed : StaticType → CapabilityList → Judgement → Judgement → Judgement
@@ -72,30 +73,30 @@ if_typed Types.true_type L r p = on_typed r (λ t M. typed t (L ++ M))
 if_typed Types.false_type L r p = p
 if_typed Types.boolean_type L r p =
     on_typed r (λ s M. on_typed p (λ t N. branches (Types.common s t) (in_both N (L ++ M))))
-if_typed s L r p = faulty Environment.unexpected
+if_typed s L r p = faulty fault.Unexpected
 
 -- the answer that literals settle, else by both operands
 abbrev pub settled_or : Option Bool → Judgement → Judgement
 settled_or (Some b) r = typed (Types.truth_type b) []
 settled_or None r = r
 
-abbrev pub members_type : Result (List StaticType) ExpressionFault → Judgement
+abbrev pub members_type : Result (List StaticType) TypeFault → Judgement
 members_type (Ok ts) = row (Rows.set_literal_type ts) learns_none
 members_type (Err n) = faulty n
 
-abbrev pub member_type : Judgement → Result (List StaticType) ExpressionFault → Result (List StaticType) ExpressionFault
+abbrev pub member_type : Judgement → Result (List StaticType) TypeFault → Result (List StaticType) TypeFault
 member_type (typed t L) (Ok ts) = Ok (t ∷ ts)
 member_type (typed t L) (Err n) = Err n
 member_type (faulty n) r = Err n
 
 -- a record whose fields of these names have these types
-abbrev pub record_typed : List (List ℕ) → Result (List StaticType) ExpressionFault → Judgement
+abbrev pub record_typed : List (List ℕ) → Result (List StaticType) TypeFault → Judgement
 record_typed ks (Ok ts) = typed (Types.record_type (Types.put_each ks ts Types.no_field_types)) []
 record_typed ks (Err n) = faulty n
 
 abbrev pub literal_call : UnaryCall → Bool → Row
 literal_call called true = Ok (type_read called)
-literal_call called false = Err Environment.bad_extension_literal
+literal_call called false = Err fault.BadExtensionLiteral
 
 -- a call with one operand of type s, which is a literal of the extension or not
 abbrev pub unary_call_type : UnaryCall → Bool → StaticType → Row
@@ -144,7 +145,7 @@ module _ (env : Environment) where
   abbrev pub call_with : BinaryCall → Judgement → Judgement → Judgement
   call_with called r p = on_typed r (λ s L. on_typed p (λ t M. row (Rows.call_type called s t) learns_none))
 
-  abbrev pub each_of : List Judgement → Result (List StaticType) ExpressionFault
+  abbrev pub each_of : List Judgement → Result (List StaticType) TypeFault
   each_of [] = Ok []
   each_of (r ∷ rs) = member_type r (each_of rs)
 

@@ -6,7 +6,8 @@ use Rattle.grammar_core.specs.declared.expr.Expr.TheVariants as form
 use Rattle.grammar_core.specs.declared.expr.Expr.TheOpen.{Expr-F}
 use Rattle.grammar_core.specs.declared.expr.Expr.TheViews.{out-Expr}
 use Rattle.typing.specs.Types.{StaticType, IsBoolean, false_type, boolean_type}
-use Rattle.typing.specs.Environment.{Environment, ExpressionFault}
+use Rattle.typing.specs.Environment.{Environment}
+use Rattle.typing.specs.declared.fault.TypeFault.{TypeFault}
 use Rattle.typing.specs.Gained.{CapabilityList}
 use Rattle.typing.specs.Rows.{MayBeTrue, MayBeFalse}
 use Rattle.typing.specs.Typing.{Types, TypesEach, types_none, types_more}
@@ -23,32 +24,32 @@ demand y x ts = at_itself x ts
 
 module _ (env : Environment) where
   -- the operands in order, and then what the form demands of their types
-  pub data EachFaults (K : CapabilityList) (xs : List Expr) (B : List StaticType → Blame) : ExpressionFault → Blame → Type 0 where
-    in_each : {n : ExpressionFault} {d : Blame} (g : FaultsEach env K xs n) → d ≡ blamed_each 0 g → EachFaults K xs B n d
-    of_each : {n : ExpressionFault} {d : Blame} {ts : List StaticType} → TypesEach env K xs ts → d ≡ B ts → EachFaults K xs B n d
+  pub data EachFaults (K : CapabilityList) (xs : List Expr) (B : List StaticType → Blame) : TypeFault → Blame → Type 0 where
+    in_each : {n : TypeFault} {d : Blame} (g : FaultsEach env K xs n) → d ≡ blamed_each 0 g → EachFaults K xs B n d
+    of_each : {n : TypeFault} {d : Blame} {ts : List StaticType} → TypesEach env K xs ts → d ≡ B ts → EachFaults K xs B n d
 
-  pub data AndFaults (K : CapabilityList) (x a b : Expr) : ExpressionFault → Blame → Type 0 where
-    and_in_left : {n : ExpressionFault} {d : Blame} (g : Faults env K a n) → d ≡ under 0 (blamed g) → AndFaults K x a b n d
-    and_left : {n : ExpressionFault} {d : Blame} {L : CapabilityList} {s : StaticType} → Types env K a s L → ¬ IsBoolean s → d ≡ at_operand 0 x (s ∷ []) → AndFaults K x a b n d
-    and_in_right : {n : ExpressionFault} {d : Blame} {L : CapabilityList} {s : StaticType} → Types env K a s L → MayBeTrue s → (g : Faults env (K ++ L) b n) → d ≡ under 1 (blamed g) → AndFaults K x a b n d
-    and_right : {n : ExpressionFault} {d : Blame} {L M : CapabilityList} {s t : StaticType} → Types env K a s L → MayBeTrue s → Types env (K ++ L) b t M → d ≡ at_operand 1 x (t ∷ []) → AndFaults K x a b n d
+  pub data AndFaults (K : CapabilityList) (x a b : Expr) : TypeFault → Blame → Type 0 where
+    and_in_left : {n : TypeFault} {d : Blame} (g : Faults env K a n) → d ≡ under 0 (blamed g) → AndFaults K x a b n d
+    and_left : {n : TypeFault} {d : Blame} {L : CapabilityList} {s : StaticType} → Types env K a s L → ¬ IsBoolean s → d ≡ at_operand 0 x (s ∷ []) → AndFaults K x a b n d
+    and_in_right : {n : TypeFault} {d : Blame} {L : CapabilityList} {s : StaticType} → Types env K a s L → MayBeTrue s → (g : Faults env (K ++ L) b n) → d ≡ under 1 (blamed g) → AndFaults K x a b n d
+    and_right : {n : TypeFault} {d : Blame} {L M : CapabilityList} {s t : StaticType} → Types env K a s L → MayBeTrue s → Types env (K ++ L) b t M → d ≡ at_operand 1 x (t ∷ []) → AndFaults K x a b n d
 
-  pub data OrFaults (K : CapabilityList) (x a b : Expr) : ExpressionFault → Blame → Type 0 where
-    or_in_left : {n : ExpressionFault} {d : Blame} (g : Faults env K a n) → d ≡ under 0 (blamed g) → OrFaults K x a b n d
-    or_left : {n : ExpressionFault} {d : Blame} {L : CapabilityList} {s : StaticType} → Types env K a s L → ¬ IsBoolean s → d ≡ at_operand 0 x (s ∷ []) → OrFaults K x a b n d
-    or_in_right : {n : ExpressionFault} {d : Blame} {L : CapabilityList} {s : StaticType} → Types env K a s L → MayBeFalse s → (g : Faults env K b n) → d ≡ under 1 (blamed g) → OrFaults K x a b n d
-    or_right : {n : ExpressionFault} {d : Blame} {L M : CapabilityList} {s t : StaticType} → Types env K a s L → MayBeFalse s → Types env K b t M → d ≡ at_operand 1 x (t ∷ []) → OrFaults K x a b n d
+  pub data OrFaults (K : CapabilityList) (x a b : Expr) : TypeFault → Blame → Type 0 where
+    or_in_left : {n : TypeFault} {d : Blame} (g : Faults env K a n) → d ≡ under 0 (blamed g) → OrFaults K x a b n d
+    or_left : {n : TypeFault} {d : Blame} {L : CapabilityList} {s : StaticType} → Types env K a s L → ¬ IsBoolean s → d ≡ at_operand 0 x (s ∷ []) → OrFaults K x a b n d
+    or_in_right : {n : TypeFault} {d : Blame} {L : CapabilityList} {s : StaticType} → Types env K a s L → MayBeFalse s → (g : Faults env K b n) → d ≡ under 1 (blamed g) → OrFaults K x a b n d
+    or_right : {n : TypeFault} {d : Blame} {L M : CapabilityList} {s t : StaticType} → Types env K a s L → MayBeFalse s → Types env K b t M → d ≡ at_operand 1 x (t ∷ []) → OrFaults K x a b n d
 
-  pub data IfFaults (K : CapabilityList) (x a b c : Expr) : ExpressionFault → Blame → Type 0 where
-    if_in_test : {n : ExpressionFault} {d : Blame} (g : Faults env K a n) → d ≡ under 0 (blamed g) → IfFaults K x a b c n d
-    if_test : {n : ExpressionFault} {d : Blame} {L : CapabilityList} {s : StaticType} → Types env K a s L → ¬ IsBoolean s → d ≡ at_operand 0 x (s ∷ []) → IfFaults K x a b c n d
-    if_in_then : {n : ExpressionFault} {d : Blame} {L : CapabilityList} {s : StaticType} → Types env K a s L → MayBeTrue s → (g : Faults env (K ++ L) b n) → d ≡ under 1 (blamed g) → IfFaults K x a b c n d
-    if_in_only_else : {n : ExpressionFault} {d : Blame} {L : CapabilityList} → Types env K a false_type L → (g : Faults env K c n) → d ≡ under 2 (blamed g) → IfFaults K x a b c n d
-    if_in_else : {n : ExpressionFault} {d : Blame} {L M : CapabilityList} {s : StaticType} → Types env K a boolean_type L → Types env (K ++ L) b s M → (g : Faults env K c n) → d ≡ under 2 (blamed g) → IfFaults K x a b c n d
-    if_branches : {n : ExpressionFault} {d : Blame} {L M N : CapabilityList} {s t : StaticType} → Types env K a boolean_type L → Types env (K ++ L) b s M → Types env K c t N → d ≡ at_itself x (s ∷ t ∷ []) → IfFaults K x a b c n d
+  pub data IfFaults (K : CapabilityList) (x a b c : Expr) : TypeFault → Blame → Type 0 where
+    if_in_test : {n : TypeFault} {d : Blame} (g : Faults env K a n) → d ≡ under 0 (blamed g) → IfFaults K x a b c n d
+    if_test : {n : TypeFault} {d : Blame} {L : CapabilityList} {s : StaticType} → Types env K a s L → ¬ IsBoolean s → d ≡ at_operand 0 x (s ∷ []) → IfFaults K x a b c n d
+    if_in_then : {n : TypeFault} {d : Blame} {L : CapabilityList} {s : StaticType} → Types env K a s L → MayBeTrue s → (g : Faults env (K ++ L) b n) → d ≡ under 1 (blamed g) → IfFaults K x a b c n d
+    if_in_only_else : {n : TypeFault} {d : Blame} {L : CapabilityList} → Types env K a false_type L → (g : Faults env K c n) → d ≡ under 2 (blamed g) → IfFaults K x a b c n d
+    if_in_else : {n : TypeFault} {d : Blame} {L M : CapabilityList} {s : StaticType} → Types env K a boolean_type L → Types env (K ++ L) b s M → (g : Faults env K c n) → d ≡ under 2 (blamed g) → IfFaults K x a b c n d
+    if_branches : {n : TypeFault} {d : Blame} {L M N : CapabilityList} {s t : StaticType} → Types env K a boolean_type L → Types env (K ++ L) b s M → Types env K c t N → d ≡ at_itself x (s ∷ t ∷ []) → IfFaults K x a b c n d
 
   -- of an expression x that is this form
-  abbrev pub LayerFaults : CapabilityList → Expr → Expr-F Expr → ExpressionFault → Blame → Type 0
+  abbrev pub LayerFaults : CapabilityList → Expr → Expr-F Expr → TypeFault → Blame → Type 0
   LayerFaults K x (Expr-F.Literal l) n d = ⊥
   LayerFaults K x (Expr-F.Variable v) n d = ⊥
   LayerFaults K x (Expr-F.If a b c) n d = IfFaults K x a b c n d
@@ -56,11 +57,11 @@ module _ (env : Environment) where
   LayerFaults K x (Expr-F.Or a b) n d = OrFaults K x a b n d
   LayerFaults K x y n d = EachFaults K (operands_in y) (demand y x) n d
 
-  seen_at : (K : CapabilityList) (x : Expr) (y : Expr-F Expr) (n : ExpressionFault) (d : Blame) → out-Expr x ≡ y
+  seen_at : (K : CapabilityList) (x : Expr) (y : Expr-F Expr) (n : TypeFault) (d : Blame) → out-Expr x ≡ y
       → LayerFaults K x y n d → LayerFaults K x (out-Expr x) n d
   seen_at K x y n d e h = subst (λ z. LayerFaults K x z n d) (sym e) h
 
-  in_operand : {K : CapabilityList} {x : Expr} {xs : List Expr} {n : ExpressionFault} → NeedsTypes env x xs
+  in_operand : {K : CapabilityList} {x : Expr} {xs : List Expr} {n : TypeFault} → NeedsTypes env x xs
       → (g : FaultsEach env K xs n) → LayerFaults K x (out-Expr x) n (blamed_each 0 g)
   in_operand {K} {n = n} (faults.of_unary op a) g =
       seen_at K (form.Unary op a) (Expr-F.Unary op a) n (blamed_each 0 g) (form.outs-Unary op a) (in_each g refl)
@@ -80,15 +81,15 @@ module _ (env : Environment) where
       seen_at K (form.BinaryCall called a b) (Expr-F.BinaryCall called a b) n (blamed_each 0 g) (form.outs-BinaryCall called a b)
       (in_each g refl)
 
-  and_at : {K : CapabilityList} (a b : Expr) {n : ExpressionFault} {d : Blame} → AndFaults K (form.And a b) a b n d
+  and_at : {K : CapabilityList} (a b : Expr) {n : TypeFault} {d : Blame} → AndFaults K (form.And a b) a b n d
       → LayerFaults K (form.And a b) (out-Expr (form.And a b)) n d
   and_at {K} a b {n} {d} h = seen_at K (form.And a b) (Expr-F.And a b) n d (form.outs-And a b) h
 
-  or_at : {K : CapabilityList} (a b : Expr) {n : ExpressionFault} {d : Blame} → OrFaults K (form.Or a b) a b n d
+  or_at : {K : CapabilityList} (a b : Expr) {n : TypeFault} {d : Blame} → OrFaults K (form.Or a b) a b n d
       → LayerFaults K (form.Or a b) (out-Expr (form.Or a b)) n d
   or_at {K} a b {n} {d} h = seen_at K (form.Or a b) (Expr-F.Or a b) n d (form.outs-Or a b) h
 
-  if_at : {K : CapabilityList} (a b c : Expr) {n : ExpressionFault} {d : Blame} → IfFaults K (form.If a b c) a b c n d
+  if_at : {K : CapabilityList} (a b c : Expr) {n : TypeFault} {d : Blame} → IfFaults K (form.If a b c) a b c n d
       → LayerFaults K (form.If a b c) (out-Expr (form.If a b c)) n d
   if_at {K} a b c {n} {d} h = seen_at K (form.If a b c) (Expr-F.If a b c) n d (form.outs-If a b c) h
 
@@ -99,7 +100,7 @@ module _ (env : Environment) where
       → TypesEach env K (a ∷ b ∷ []) (s ∷ t ∷ [])
   two_typed h g = types_more h (types_more g types_none)
 
-  layered : {K : CapabilityList} {x : Expr} {n : ExpressionFault} (h : Faults env K x n) → LayerFaults K x (out-Expr x) n (blamed h)
+  layered : {K : CapabilityList} {x : Expr} {n : TypeFault} (h : Faults env K x n) → LayerFaults K x (out-Expr x) n (blamed h)
   layered (faults.fault_in_operand w g) = in_operand w g
   layered (faults.fault_of_unary {K} op a {s} {n} h e) =
       seen_at K (form.Unary op a) (Expr-F.Unary op a) n _ (form.outs-Unary op a) (of_each (one_typed h) refl)
@@ -134,6 +135,6 @@ module _ (env : Environment) where
   layered (faults.branches_differ a b c h g i e) = if_at a b c (if_branches h g i refl)
 
   -- what is blamed of an expression that is this form
-  pub layer : {K : CapabilityList} {x : Expr} {n : ExpressionFault} (y : Expr-F Expr) → out-Expr x ≡ y → (h : Faults env K x n)
+  pub layer : {K : CapabilityList} {x : Expr} {n : TypeFault} (y : Expr-F Expr) → out-Expr x ≡ y → (h : Faults env K x n)
       → LayerFaults K x y n (blamed h)
   layer {K} {x} {n} y e h = subst (λ z. LayerFaults K x z n (blamed h)) e (layered h)

@@ -6,7 +6,8 @@ use Rattle.grammar_core.specs.declared.expr.Expr.TheVariants as form
 use Rattle.grammar_core.specs.declared.expr.Expr.TheOpen.{Expr-F}
 use Rattle.typing.specs.Types
 use Rattle.typing.specs.Types.{StaticType}
-use Rattle.typing.specs.Environment.{Environment, ExpressionFault}
+use Rattle.typing.specs.Environment.{Environment}
+use Rattle.typing.specs.declared.fault.TypeFault.{TypeFault}
 use Rattle.typing.specs.Gained.{CapabilityList}
 use Rattle.typing.specs.Typing.{types_none, types_more}
 use Rattle.typing.specs.Faults as faults
@@ -20,13 +21,13 @@ use Rattle.typing.proofs.Going.{never, never_each, Goes, true_not_false, either_
 
 module _ (one : HaveOneJudgement) (env : Environment) where
   -- where all derivations for the operands blame what g does, so do those for the form
-  each_same : {K : CapabilityList} (xs : List Expr) {B : List StaticType → Blame} {m n : ExpressionFault} {d : Blame} (g : FaultsEach env K xs m)
+  each_same : {K : CapabilityList} (xs : List Expr) {B : List StaticType → Blame} {m n : TypeFault} {d : Blame} (g : FaultsEach env K xs m)
       → ((h : FaultsEach env K xs n) → blamed_each 0 g ≡ blamed_each 0 h) → EachFaults env K xs B n d → blamed_each 0 g ≡ d
   each_same xs g same (Layers.in_each h q) = same h ∙ sym q
   each_same xs g same (Layers.of_each t q) = absurd (never_each one env xs t g)
 
   mutual
-    pub one_blame : {K : CapabilityList} {x : Expr} {m n : ExpressionFault} (g : Faults env K x m) (h : Faults env K x n) → blamed g ≡ blamed h
+    pub one_blame : {K : CapabilityList} {x : Expr} {m n : TypeFault} (g : Faults env K x m) (h : Faults env K x n) → blamed g ≡ blamed h
     one_blame (faults.fault_in_operand (faults.of_unary op a) g) h =
         each_same (a ∷ []) g (λ k. one_each 0 g k) (layer env (Expr-F.Unary op a) (form.outs-Unary op a) h)
     one_blame (faults.fault_in_operand (faults.of_binary op a b u) g) h =
@@ -110,7 +111,7 @@ module _ (one : HaveOneJudgement) (env : Environment) where
         sym (Going.if_stops one env (form.If a b c) a b c t Types.is_either either_not_false s u
         (layer env (Expr-F.If a b c) (form.outs-If a b c) h))
 
-    one_each : {K : CapabilityList} {xs : List Expr} {m n : ExpressionFault} (j : ℕ) (g : FaultsEach env K xs m) (h : FaultsEach env K xs n)
+    one_each : {K : CapabilityList} {xs : List Expr} {m n : TypeFault} (j : ℕ) (g : FaultsEach env K xs m) (h : FaultsEach env K xs n)
         → blamed_each j g ≡ blamed_each j h
     one_each j (faults.fault_here g) (faults.fault_here h) = ap (under j) (one_blame g h)
     one_each j (faults.fault_here g) (faults.fault_later t h) = absurd (never one env t g)

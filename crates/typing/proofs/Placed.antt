@@ -6,7 +6,8 @@ use Rattle.grammar_core.specs.declared.expr.Expr.TheVariants as form
 use Rattle.grammar_core.specs.declared.expr.Expr.TheOpen.{Expr-F}
 use Rattle.grammar_core.specs.declared.expr.Expr.TheViews.{out-Expr}
 use Rattle.typing.specs.Types.{StaticType}
-use Rattle.typing.specs.Environment.{Environment, ExpressionFault}
+use Rattle.typing.specs.Environment.{Environment}
+use Rattle.typing.specs.declared.fault.TypeFault.{TypeFault}
 use Rattle.typing.specs.Gained.{CapabilityList}
 use Rattle.typing.specs.Faults as faults
 use Rattle.typing.specs.Faults.{Faults, FaultsEach}
@@ -52,7 +53,7 @@ next j k = omega arith
 
 module _ (env : Environment) where
   mutual
-    pub placed : {K : CapabilityList} {x : Expr} {n : ExpressionFault} (g : Faults env K x n) → IsPlaced x (blamed g)
+    pub placed : {K : CapabilityList} {x : Expr} {n : TypeFault} (g : Faults env K x n) → IsPlaced x (blamed g)
     placed (faults.fault_in_operand (faults.of_unary op a) g) =
         placed_each (form.Unary op a) 0 (a ∷ [])
         (all_from_first (form.Unary op a) (Expr-F.Unary op a) (form.outs-Unary op a)) g
@@ -124,7 +125,7 @@ module _ (env : Environment) where
     placed (faults.branches_differ a b c h g i e) = inl refl
 
     -- of several operands, which stand in those of the form from this index on
-    placed_each : {K : CapabilityList} {n : ExpressionFault} (x : Expr) (j : ℕ) (xs : List Expr)
+    placed_each : {K : CapabilityList} {n : TypeFault} (x : Expr) (j : ℕ) (xs : List Expr)
         → ((k : ℕ) (a : Expr) → slice_get xs k ≡ Some a → slice_get (operands_of x) (j + k) ≡ Some a)
         → (g : FaultsEach env K xs n) → IsPlaced x (blamed_each j g)
     placed_each x j (y ∷ ys) stand (faults.fault_here g) =

@@ -8,7 +8,8 @@ use Rattle.std.specs.Prelude.{ℕ, suc, List, [], ◌∷◌}
 use Rattle.grammar_core.specs.declared.expr.Expr.{Expr}
 use Rattle.grammar_core.specs.declared.expr.Expr.TheVariants as form
 use Rattle.typing.specs.Types.{StaticType}
-use Rattle.typing.specs.Environment.{Environment, ExpressionFault}
+use Rattle.typing.specs.Environment.{Environment}
+use Rattle.typing.specs.declared.fault.TypeFault.{TypeFault}
 use Rattle.typing.specs.Gained.{CapabilityList}
 use Rattle.typing.specs.Faults.{Faults, FaultsEach, fault_in_operand, fault_of_unary, fault_of_binary}
 use Rattle.typing.specs.Faults.{fault_of_field, fault_of_has, fault_of_set, no_literal, fault_of_address_test}
@@ -41,7 +42,7 @@ under i b = record { path = i ∷ b.path; form = b.form; types = b.types }
 
 abbrev mutual
   -- `blamed g` is what the derivation `g` of an error blames, by one clause for each rule.
-  pub blamed : {env : Environment} {K : CapabilityList} {x : Expr} {n : ExpressionFault} → Faults env K x n → Blame
+  pub blamed : {env : Environment} {K : CapabilityList} {x : Expr} {n : TypeFault} → Faults env K x n → Blame
   blamed (fault_in_operand w g) = blamed_each 0 g
   blamed (fault_of_unary op a {s} h e) = at_operand 0 (form.Unary op a) (s ∷ [])
   blamed (fault_of_binary op a b {s} {t} u h g e) = at_itself (form.Binary op a b) (s ∷ t ∷ [])
@@ -68,7 +69,7 @@ abbrev mutual
 
   -- `blamed_each i g` is what the derivation `g` of an error blames, in the first operand with an error; the operands
   -- are numbered from `i`.
-  pub blamed_each : {env : Environment} {K : CapabilityList} {xs : List Expr} {n : ExpressionFault} → ℕ
+  pub blamed_each : {env : Environment} {K : CapabilityList} {xs : List Expr} {n : TypeFault} → ℕ
       → FaultsEach env K xs n
       → Blame
   blamed_each i (fault_here g) = under i (blamed g)

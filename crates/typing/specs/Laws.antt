@@ -11,7 +11,9 @@ use Rattle.evaluator.specs.Outcomes.{EvaluationResult}
 use Rattle.evaluator.specs.Operators.{Entities}
 use Rattle.evaluator.specs.Evaluation.{EvaluatesTo}
 use Rattle.typing.specs.Types.{StaticType, false_type, boolean_type, IsBoolean}
-use Rattle.typing.specs.Environment.{Environment, ExpressionFault, attribute_may_be_missing}
+use Rattle.typing.specs.Environment.{Environment}
+use Rattle.typing.specs.declared.fault.TypeFault.{TypeFault}
+use Rattle.typing.specs.declared.fault.TypeFault.TheVariants.{AttributeMayBeMissing}
 use Rattle.typing.specs.Gained.{Capability, CapabilityList}
 use Rattle.typing.specs.Ordered.{IsOrdered, HasOrderedTypes}
 use Rattle.typing.specs.Typing.{Types}
@@ -37,7 +39,7 @@ abbrev pub CapabilitiesAreASet : Type 0
 CapabilitiesAreASet = (env : Environment) (K M : CapabilityList) (x : Expr) → AreSameCapabilities K M
     → ((t : StaticType) (L : CapabilityList) → Types env K x t L → (N : CapabilityList) × AreSameCapabilities L N
     × Types env M x t N)
-    × ((n : ExpressionFault) → Faults env K x n → Faults env M x n)
+    × ((n : TypeFault) → Faults env K x n → Faults env M x n)
 
 -- `TypesAreOrdered`: if the keys of record types ascend in the types of an environment, they ascend in the type of each
 -- expression; so record types with the same keys have them in the same order.
@@ -82,7 +84,7 @@ SomethingIsTyped = Types environment [] (form.And has_age is_aged) boolean_type 
 
 -- `SomethingIsFaulty`: in the example, the age may not be accessed in `principal has age || ..`.
 abbrev pub SomethingIsFaulty : Type 0
-SomethingIsFaulty = Faults environment [] (form.Or has_age is_aged) attribute_may_be_missing
+SomethingIsFaulty = Faults environment [] (form.Or has_age is_aged) AttributeMayBeMissing
 
 -- `IsTransitive below` holds if `below` is transitive.
 abbrev pub IsTransitive : (List ℕ → List ℕ → Bool) → Type 0

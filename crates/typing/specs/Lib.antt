@@ -1,4 +1,5 @@
 pub mod BlamedExpressions
+pub mod Codes
 pub mod Conforming
 pub mod Environment
 pub mod Example

@@ -3,7 +3,8 @@
 -- Source: BlamedExpressions.antt and Places.antt.
 use Rattle.std.specs.Prelude.{◌≡◌, ◌⊎◌, ℕ, List, [], ◌∷◌, ◌++◌, Some, slice_get}
 use Rattle.grammar_core.specs.declared.expr.Expr.{Expr}
-use Rattle.typing.specs.Environment.{Environment, ExpressionFault}
+use Rattle.typing.specs.Environment.{Environment}
+use Rattle.typing.specs.declared.fault.TypeFault.{TypeFault}
 use Rattle.typing.specs.Gained.{CapabilityList}
 use Rattle.typing.specs.Faults.{Faults}
 use Rattle.typing.specs.BlamedExpressions.{Blame, blamed}
@@ -11,7 +12,7 @@ use Rattle.typing.specs.Places.{operands_of, follow}
 
 -- `OneBlame`: no two derivations of an expression's error blame different places.
 abbrev pub OneBlame : Type 0
-OneBlame = (env : Environment) (K : CapabilityList) (x : Expr) (m n : ExpressionFault) (g : Faults env K x m)
+OneBlame = (env : Environment) (K : CapabilityList) (x : Expr) (m n : TypeFault) (g : Faults env K x m)
     (h : Faults env K x n) → blamed g ≡ blamed h
 
 -- `LeadsToOperand x b` holds if the path of `b` leads from `x` to an operand of the form of `b`.
@@ -29,5 +30,5 @@ IsPlaced x b = (follow b.path x ≡ Some b.form) ⊎ LeadsToOperand x b
 
 -- `BlamesArePlaced`: what a derivation of an expression's error blames is a part of that expression.
 abbrev pub BlamesArePlaced : Type 0
-BlamesArePlaced = (env : Environment) (K : CapabilityList) (x : Expr) (n : ExpressionFault) (g : Faults env K x n)
+BlamesArePlaced = (env : Environment) (K : CapabilityList) (x : Expr) (n : TypeFault) (g : Faults env K x n)
     → IsPlaced x (blamed g)

@@ -24,12 +24,14 @@ use Rattle.grammar_core.specs.declared.operator.BinaryCall.TheVariants.{GreaterT
 use Rattle.typing.specs.Types.{StaticType, true_type, false_type, boolean_type, long_type, text_type, entity_type}
 use Rattle.typing.specs.Types.{set_type, record_type, decimal_type, ipaddr_type, Declared, undeclared, optional}
 use Rattle.typing.specs.Types.{required, field_declared_at, truth_type, common, common_of}
-use Rattle.typing.specs.Environment.{Environment, ExpressionFault, unexpected, no_common_type, attribute_may_be_missing}
-use Rattle.typing.specs.Environment.{empty_set}
+use Rattle.typing.specs.Environment.{Environment}
+use Rattle.typing.specs.declared.fault.TypeFault.{TypeFault}
+use Rattle.typing.specs.declared.fault.TypeFault.TheVariants.{Unexpected, NoCommonType, AttributeMayBeMissing}
+use Rattle.typing.specs.declared.fault.TypeFault.TheVariants.{EmptySet}
 
 -- A `Row` is the type of an expression, or its error, given the types of its operands.
 abbrev pub Row : Type 0
-Row = Result StaticType ExpressionFault
+Row = Result StaticType TypeFault
 
 -- ---- literals and variables
 
@@ -57,11 +59,11 @@ unary_type Not boolean_type = Ok boolean_type
 unary_type Negate long_type = Ok long_type
 unary_type (Like pattern) text_type = Ok boolean_type
 unary_type (Is n) (entity_type m) = Ok (truth_type (bytes_eq m n))
-unary_type op t = Err unexpected
+unary_type op t = Err Unexpected
 
--- `if_common o` is Bool if there is a common type `o`, else the error `no_common_type`.
+-- `if_common o` is Bool if there is a common type `o`, else the error `NoCommonType`.
 abbrev pub if_common : Option StaticType → Row
-if_common None = Err no_common_type
+if_common None = Err NoCommonType
 if_common (Some t) = Ok boolean_type
 
 -- `equal_type s t` is the type of `==` on operands of the types `s` and `t`: False for two different entity types; else
@@ -80,10 +82,10 @@ may_be_in env m n =
 abbrev pub in_type : Environment → List ℕ → List ℕ → StaticType
 in_type env m n = if may_be_in env m n then boolean_type else false_type
 
--- `of_numbers t r s` is the type `t` if the operand types `r` and `s` are both Long, else the error `unexpected`.
+-- `of_numbers t r s` is the type `t` if the operand types `r` and `s` are both Long, else the error `Unexpected`.
 abbrev pub of_numbers : StaticType → StaticType → StaticType → Row
 of_numbers t long_type long_type = Ok t
-of_numbers t r s = Err unexpected
+of_numbers t r s = Err Unexpected
 
 -- `binary_type env op s t` is the type of the operator `op` on operands of the types `s` and `t` in the environment
 -- `env`.
@@ -99,7 +101,7 @@ binary_type env Multiply s t = of_numbers long_type s t
 binary_type env Contains (set_type s) t = if_common (common s t)
 binary_type env ContainsAll (set_type s) (set_type t) = if_common (common s t)
 binary_type env ContainsAny (set_type s) (set_type t) = if_common (common s t)
-binary_type env op s t = Err unexpected
+binary_type env op s t = Err Unexpected
 
 -- ---- `&&` and `||`
 
@@ -129,19 +131,19 @@ or_type t = boolean_type
 -- ---- fields; `is_known` is whether there is a capability for the field
 
 -- `access_type is_known declared` is the type of `e.f`, where `declared` is the declaration of `f`: the type of a
--- required field, or of an optional one if `is_known`; else the error `attribute_may_be_missing`.
+-- required field, or of an optional one if `is_known`; else the error `AttributeMayBeMissing`.
 abbrev pub access_type : Bool → Declared → Row
-access_type is_known undeclared = Err attribute_may_be_missing
+access_type is_known undeclared = Err AttributeMayBeMissing
 access_type is_known (required t) = Ok t
 access_type true (optional t) = Ok t
-access_type false (optional t) = Err attribute_may_be_missing
+access_type false (optional t) = Err AttributeMayBeMissing
 
 -- `field_type_of env is_known k t` is the type of `e.k` in the environment `env`, where `e` is of the type `t`, and
 -- `is_known` is whether there is a capability for `e.k`.
 abbrev pub field_type_of : Environment → Bool → List ℕ → StaticType → Row
 field_type_of env is_known k (record_type ts) = access_type is_known (field_declared_at k ts)
 field_type_of env is_known k (entity_type n) = access_type is_known (field_declared_at k (env.attributes n))
-field_type_of env is_known k t = Err unexpected
+field_type_of env is_known k t = Err Unexpected
 
 -- `record_has declared` is the type of `e has f` for a record `e` without a capability for `e.f`, where `declared` is
 -- the declaration of `f`.
@@ -163,18 +165,18 @@ abbrev pub has_type : Environment → Bool → List ℕ → StaticType → Row
 has_type env is_known k (record_type ts) = Ok (if is_known then true_type else record_has (field_declared_at k ts))
 has_type env is_known k (entity_type n) =
     Ok (if is_known then true_type else entity_has (field_declared_at k (env.attributes n)))
-has_type env is_known k t = Err unexpected
+has_type env is_known k t = Err Unexpected
 
 -- ---- sets
 
--- `set_of_common o` is the type of sets whose members have the common type `o`; the error `no_common_type` for `None`.
+-- `set_of_common o` is the type of sets whose members have the common type `o`; the error `NoCommonType` for `None`.
 abbrev pub set_of_common : Option StaticType → Row
-set_of_common None = Err no_common_type
+set_of_common None = Err NoCommonType
 set_of_common (Some t) = Ok (set_type t)
 
 -- `set_literal_type ts` is the type of a set literal whose members have the types `ts`.
 abbrev pub set_literal_type : List StaticType → Row
-set_literal_type [] = Err empty_set
+set_literal_type [] = Err EmptySet
 set_literal_type (t ∷ ts) = set_of_common (common_of t ts)
 
 -- ---- calls
@@ -182,17 +184,17 @@ set_literal_type (t ∷ ts) = set_of_common (common_of t ts)
 -- `address_test_type t` is the type of a test of an IP address on an operand of the type `t`.
 abbrev pub address_test_type : StaticType → Row
 address_test_type ipaddr_type = Ok boolean_type
-address_test_type t = Err unexpected
+address_test_type t = Err Unexpected
 
--- `of_decimals s t` is Bool if the types `s` and `t` are both decimal, else the error `unexpected`. `of_addresses s t`
+-- `of_decimals s t` is Bool if the types `s` and `t` are both decimal, else the error `Unexpected`. `of_addresses s t`
 -- is Bool if both are ipaddr, else the same error.
 abbrev pub of_decimals : StaticType → StaticType → Row
 of_decimals decimal_type decimal_type = Ok boolean_type
-of_decimals s t = Err unexpected
+of_decimals s t = Err Unexpected
 
 abbrev pub of_addresses : StaticType → StaticType → Row
 of_addresses ipaddr_type ipaddr_type = Ok boolean_type
-of_addresses s t = Err unexpected
+of_addresses s t = Err Unexpected
 
 -- `call_type called s t` is the type of the call `called` on operands of the types `s` and `t`.
 abbrev pub call_type : BinaryCall → StaticType → StaticType → Row

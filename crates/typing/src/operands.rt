@@ -5,7 +5,7 @@ ghost use Rattle.typing.specs.Places.{IsAt, operands_of, follow};
 use grammar_core::{Expr, Named};
 
 /// Returns the only operand, `a`, if the index is 0, else `None`.
-fn one_at<'a>(a: &'a Expr, at: usize) -> Option<&'a Expr>
+fn only_operand_at<'a>(a: &'a Expr, at: usize) -> Option<&'a Expr>
     ensures item { IsAt (a.entry.now ∷ []) at result }
     ensures few { IsSome result → at < usize.MAX }
 {
@@ -13,7 +13,7 @@ fn one_at<'a>(a: &'a Expr, at: usize) -> Option<&'a Expr>
 }
 
 /// Returns the operand at the index `at` of the two operands `a` and `b`, or `None` past the end.
-fn two_at<'a>(a: &'a Expr, b: &'a Expr, at: usize) -> Option<&'a Expr>
+fn operand_of_two<'a>(a: &'a Expr, b: &'a Expr, at: usize) -> Option<&'a Expr>
     ensures item { IsAt (a.entry.now ∷ b.entry.now ∷ []) at result }
     ensures few { IsSome result → at < usize.MAX }
 {
@@ -25,7 +25,7 @@ fn two_at<'a>(a: &'a Expr, b: &'a Expr, at: usize) -> Option<&'a Expr>
 }
 
 /// Returns the operand at the index `at` of the three operands `a`, `b` and `c`, or `None` past the end.
-fn three_at<'a>(a: &'a Expr, b: &'a Expr, c: &'a Expr, at: usize) -> Option<&'a Expr>
+fn operand_of_three<'a>(a: &'a Expr, b: &'a Expr, c: &'a Expr, at: usize) -> Option<&'a Expr>
     ensures item { IsAt (a.entry.now ∷ b.entry.now ∷ c.entry.now ∷ []) at result }
     ensures few { IsSome result → at < usize.MAX }
 {
@@ -71,17 +71,19 @@ pub fn operand<'a>(expr: &'a Expr, at: usize) -> Option<&'a Expr>
     match expr {
         Expr::Literal(_) => None,
         Expr::Variable(_) => None,
-        Expr::If(test, consequent, alternative) => { three_at(test, consequent, alternative, at) }
-        Expr::And(left, right) => two_at(left, right, at),
-        Expr::Or(left, right) => two_at(left, right, at),
-        Expr::Unary(_, operand) => one_at(operand, at),
-        Expr::Binary(_, left, right) => two_at(left, right, at),
-        Expr::Field(owner, _) => one_at(owner, at),
-        Expr::Has(owner, _) => one_at(owner, at),
+        Expr::If(test, consequent, alternative) => {
+            operand_of_three(test, consequent, alternative, at)
+        }
+        Expr::And(left, right) => operand_of_two(left, right, at),
+        Expr::Or(left, right) => operand_of_two(left, right, at),
+        Expr::Unary(_, operand) => only_operand_at(operand, at),
+        Expr::Binary(_, left, right) => operand_of_two(left, right, at),
+        Expr::Field(owner, _) => only_operand_at(owner, at),
+        Expr::Has(owner, _) => only_operand_at(owner, at),
         Expr::Set(members) => member_at(members.as_slice(), at),
         Expr::Record(fields) => field_at(fields.as_slice(), at),
-        Expr::UnaryCall(_, operand) => one_at(operand, at),
-        Expr::BinaryCall(_, left, right) => two_at(left, right, at),
+        Expr::UnaryCall(_, operand) => only_operand_at(operand, at),
+        Expr::BinaryCall(_, left, right) => operand_of_two(left, right, at),
     }
 }
 

@@ -14,8 +14,8 @@ use Rattle.type_checker.specs.schema.Views.{environment_view}
 use Rattle.type_checker.specs.typing.Types.{false_type}
 use Rattle.type_checker.specs.typing.Environment.{Environment}
 use Rattle.type_checker.specs.FromSchemas.{typing_environment_of}
-use Rattle.validator.specs.declared.fault.TypeFault.{TypeFault}
-use Rattle.validator.specs.declared.fault.TypeFault.TheVariants.{NoMemory}
+use Rattle.type_checker.specs.typing.declared.fault.TypeFault.{TypeFault}
+use Rattle.type_checker.specs.typing.declared.fault.TypeFault.TheVariants.{NoMemory}
 use Rattle.validator.specs.Names.{names_of}
 use Rattle.validator.specs.Passing
 use Rattle.validator.specs.Passing.{environments_of, HasType, HasBooleanType, IsVerdict, IsCheckRefused}
@@ -41,11 +41,11 @@ module _ (x : Expr) where
       λ k. g.1.1 (and_from before d k.0 (h.1.1 (All-head (HasType x false_type) env envs k.1)), All-tail (HasType x false_type) env envs k.1),
     ),
   )
-  one_more before d env envs h (Err f) g = λ n. let k = g n in (k.0, k.1, Passing.faulty_later h.0 k.2)
+  one_more before d env envs h (Err f) g = λ n. Passing.faulty_later h.0 (g n)
 
   faulty_now : (before : Bool) (env : Environment) (envs : List Environment) (f : TypeFault) → IsJudged env x (Err f)
       → AreJudged x before (env ∷ envs) (Err f)
-  faulty_now before env envs f h = λ n. let k = h n in (k.0, k.1, Passing.faulty_here k.2)
+  faulty_now before env envs f h = λ n. Passing.faulty_here (h n)
 
   none_left : (before : Bool) → AreJudged x before [] (Ok before)
   none_left before = (All-nil (HasBooleanType x), ((λ e. (e, All-nil (HasType x false_type))), λ k. k.0))
@@ -102,9 +102,7 @@ module _ (s : StatedSchema) (policy : Policy) (parts : List Expr) (are : parts �
 
     pub type_refused : Ok tt ≡ parts_check s parts policy.condition → (f : TypeFault)
         → AreJudged (expression_of policy) true (typing_environments s ps) (Err f) → f ≢ NoMemory → IsCheckRefused s policy f
-    type_refused e f h n =
-        let k = moved (Err f) h n in
-        subst (IsCheckRefused s policy) (sym k.1) (Passing.for_type (names_come (Ok tt) e) k.2)
+    type_refused e f h n = Passing.for_type (names_come (Ok tt) e) (moved (Err f) h n)
 
     pub passed : Ok tt ≡ parts_check s parts policy.condition → (b : Bool)
         → AreJudged (expression_of policy) true (typing_environments s ps) (Ok b)

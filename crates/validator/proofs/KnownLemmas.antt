@@ -15,8 +15,8 @@ use Rattle.values.specs.Names.{uid_cmp-IsTotalOrder, uid_cmp-IsAntisymmetric}
 use Rattle.type_checker.specs.schema.Schemas.{StatedSchema}
 use Rattle.type_checker.specs.schema.WellFormed.{IsWellFormed}
 use Rattle.type_checker.specs.entities.Entities.{is_action_type}
-use Rattle.validator.specs.declared.fault.TypeFault.{TypeFault}
-use Rattle.validator.specs.declared.fault.TypeFault.TheVariants.{UnknownType, UnknownAction}
+use Rattle.type_checker.specs.typing.declared.fault.TypeFault.{TypeFault}
+use Rattle.type_checker.specs.typing.declared.fault.TypeFault.TheVariants.{UnknownType, UnknownAction}
 use Rattle.validator.specs.Names.{Name, tested_type, entity}
 use Rattle.validator.specs.Unknown
 use Rattle.validator.specs.Unknown.{IsEntityType, IsTypeOfAction, IsUnknown, IsKnown, FirstUnknown}

@@ -11,7 +11,9 @@ use Rattle.type_checker.specs.policy_grammar.PolicyExpression.{expression_of}
 use Rattle.type_checker.specs.schema.Schemas.{StatedSchema}
 use Rattle.type_checker.specs.typing.Types
 use Rattle.type_checker.specs.typing.Types.{StaticType, IsBoolean, false_type}
-use Rattle.type_checker.specs.typing.Environment.{Environment, ExpressionFault, unexpected}
+use Rattle.type_checker.specs.typing.Environment.{Environment}
+use Rattle.type_checker.specs.typing.declared.fault.TypeFault.{TypeFault}
+use Rattle.type_checker.specs.typing.declared.fault.TypeFault.TheVariants.{Unexpected}
 use Rattle.type_checker.specs.typing.Gained.{CapabilityList}
 use Rattle.type_checker.specs.typing.Rows
 use Rattle.type_checker.specs.typing.Rows.{MayBeTrue}
@@ -21,8 +23,6 @@ use Rattle.type_checker.specs.typing.Faults.{Faults}
 use Rattle.type_checker.specs.typing.Judgement.{Judgement, typed, faulty, Judges}
 use Rattle.type_checker.specs.typing.Laws.{HaveOneJudgement, PoliciesAreSound}
 use Rattle.type_checker.specs.FromSchemas.{typing_environment_of}
-use Rattle.validator.specs.declared.fault.TypeFault.{TypeFault}
-use Rattle.validator.specs.Faults.{of_typing}
 use Rattle.validator.specs.Names.{names_of}
 use Rattle.validator.specs.Unknown.{IsKnown}
 use Rattle.validator.specs.Passing
@@ -57,14 +57,14 @@ and_boolean Rows.perhaps Types.is_either = Types.is_either
 
 -- a boolean type, or an error
 abbrev pub IsTest : Environment → Expr → Type 0
-IsTest env x = HasBooleanType x env ⊎ ((n : ExpressionFault) × Faults env [] x n)
+IsTest env x = HasBooleanType x env ⊎ ((n : TypeFault) × Faults env [] x n)
 
 module _ (one : HaveOneJudgement) (env : Environment) (a b : Expr) where
   right_case : (s : StaticType) (L : CapabilityList) → Types env [] a s L → MayBeTrue s → (r : Judgement) → Judges env ([] ++ L) b r
       → IsTest env (form.And a b)
   right_case s L h m (typed t M) g = elim (boolean_or_not t) [
     | inl i ↦ inl (Rows.and_type s t, and_boolean m i, (L ++ M, Typing.and_of_both a b h m g i))
-    | inr i ↦ inr (unexpected, Faults.right_of_and_no_boolean a b h m g i)
+    | inr i ↦ inr (Unexpected, Faults.right_of_and_no_boolean a b h m g i)
   ]
   right_case s L h m (faulty n) g = inr (n, Faults.fault_right_of_and a b h m g)
 
@@ -79,7 +79,7 @@ module _ (one : HaveOneJudgement) (env : Environment) (a b : Expr) where
   left_case : (r : Judgement) → Judges env [] a r → IsTest env (form.And a b)
   left_case (typed s L) h = elim (boolean_or_not s) [
     | inl i ↦ left_typed s L h i
-    | inr i ↦ inr (unexpected, Faults.left_of_and_no_boolean a b h i)
+    | inr i ↦ inr (Unexpected, Faults.left_of_and_no_boolean a b h i)
   ]
   left_case (faulty n) h = inr (n, Faults.fault_left_of_and a b h)
 
@@ -91,10 +91,10 @@ module _ (one : HaveOneJudgement) (env : Environment) (a b : Expr) where
 typed_same : {s t : StaticType} {L M : CapabilityList} → typed s L ≡ typed t M → s ≡ t
 typed_same e = cc
 
-faulty_same : {m n : ExpressionFault} → faulty m ≡ faulty n → m ≡ n
+faulty_same : {m n : TypeFault} → faulty m ≡ faulty n → m ≡ n
 faulty_same e = cc
 
-typed_not_faulty : {t : StaticType} {L : CapabilityList} {n : ExpressionFault} → typed t L ≡ faulty n → ⊥
+typed_not_faulty : {t : StaticType} {L : CapabilityList} {n : TypeFault} → typed t L ≡ faulty n → ⊥
 typed_not_faulty e = cc
 
 module _ (one : HaveOneJudgement) (x : Expr) where
@@ -104,25 +104,25 @@ module _ (one : HaveOneJudgement) (x : Expr) where
   pub one_type : (env : Environment) (s t : StaticType) → HasType x s env → HasType x t env → s ≡ t
   one_type env s t h g = typed_same (both env (typed s h.0) (typed t g.0) h.1 g.1)
 
-  one_fault : (env : Environment) (m n : ExpressionFault) → Faults env [] x m → Faults env [] x n → m ≡ n
+  one_fault : (env : Environment) (m n : TypeFault) → Faults env [] x m → Faults env [] x n → m ≡ n
   one_fault env m n h g = faulty_same (both env (faulty m) (faulty n) h g)
 
-  pub typed_or_faulty : (env : Environment) (t : StaticType) (n : ExpressionFault) → HasType x t env → Faults env [] x n → ⊥
+  pub typed_or_faulty : (env : Environment) (t : StaticType) (n : TypeFault) → HasType x t env → Faults env [] x n → ⊥
   typed_or_faulty env t n h g = typed_not_faulty (both env (typed t h.0) (faulty n) h.1 g)
 
-  not_both : (env : Environment) (n : ExpressionFault) → HasBooleanType x env → Faults env [] x n → ⊥
+  not_both : (env : Environment) (n : TypeFault) → HasBooleanType x env → Faults env [] x n → ⊥
   not_both env n h g = typed_or_faulty env h.0 n h.2 g
 
   -- ---- environments in turn
 
-  one_faulty : (envs : List Environment) (m n : ExpressionFault) → FirstFaulty x envs m → FirstFaulty x envs n → m ≡ n
+  one_faulty : (envs : List Environment) (m n : TypeFault) → FirstFaulty x envs m → FirstFaulty x envs n → m ≡ n
   one_faulty [] m n h g = elim h [ ]
   one_faulty (env ∷ envs) m n (Passing.faulty_here h) (Passing.faulty_here g) = one_fault env m n h g
   one_faulty (env ∷ envs) m n (Passing.faulty_here h) (Passing.faulty_later g k) = absurd (not_both env m g h)
   one_faulty (env ∷ envs) m n (Passing.faulty_later h k) (Passing.faulty_here g) = absurd (not_both env n h g)
   one_faulty (env ∷ envs) m n (Passing.faulty_later h k) (Passing.faulty_later g l) = one_faulty envs m n k l
 
-  none_faulty : (envs : List Environment) (n : ExpressionFault) → All (HasBooleanType x) envs → FirstFaulty x envs n → ⊥
+  none_faulty : (envs : List Environment) (n : TypeFault) → All (HasBooleanType x) envs → FirstFaulty x envs n → ⊥
   none_faulty [] n h g = elim g [ ]
   none_faulty (env ∷ envs) n h (Passing.faulty_here g) = not_both env n (All-head (HasBooleanType x) env envs h) g
   none_faulty (env ∷ envs) n h (Passing.faulty_later g k) = none_faulty envs n (All-tail (HasBooleanType x) env envs h) k
@@ -132,7 +132,7 @@ module _ (one : HaveOneJudgement) (x : Expr) where
   AreTyped envs = (b : Bool) × All (HasBooleanType x) envs × Decides b (All (HasType x false_type) envs)
 
   AreJudged : List Environment → Type 0
-  AreJudged envs = AreTyped envs ⊎ ((n : ExpressionFault) × FirstFaulty x envs n)
+  AreJudged envs = AreTyped envs ⊎ ((n : TypeFault) × FirstFaulty x envs n)
 
   false_or_not : (env : Environment) (t : StaticType) → IsBoolean t → HasType x t env → (b : Bool) × Decides b (HasType x false_type env)
   false_or_not env t Types.is_true h = (false, ((λ e. absurd (false≢true e)), λ g. absurd (true_is_false (one_type env _ _ h g))))
@@ -182,12 +182,11 @@ module _ (one : HaveOneJudgement) (s : StatedSchema) (policy : Policy) where
   one_refusal f g (Passing.for_name h) (Passing.for_name k) = one_first s (names_of policy) f g h k
   one_refusal f g (Passing.for_name h) (Passing.for_type k l) = absurd (none_first s (names_of policy) f k h)
   one_refusal f g (Passing.for_type h l) (Passing.for_name k) = absurd (none_first s (names_of policy) g h k)
-  one_refusal f g (Passing.for_type {n = m} h l) (Passing.for_type {n = n} k i) =
-      ap of_typing (one_faulty one (expression_of policy) (environments_of s) m n l i)
+  one_refusal f g (Passing.for_type h l) (Passing.for_type k i) = one_faulty one (expression_of policy) (environments_of s) f g l i
 
   not_refused : (f : TypeFault) → Passes s policy → IsCheckRefused s policy f → ⊥
   not_refused f h (Passing.for_name k) = none_first s (names_of policy) f h.known k
-  not_refused f h (Passing.for_type {n = n} k l) = none_faulty one (expression_of policy) (environments_of s) n h.typed l
+  not_refused f h (Passing.for_type k l) = none_faulty one (expression_of policy) (environments_of s) f h.typed l
 
   one_outcome : (o p : CheckResult) → IsCheckResult s policy o → IsCheckResult s policy p → p ≡ o
   one_outcome (Outcomes.passes b) (Outcomes.passes c) h g = ap (λ d. Outcomes.passes d) (one_answer c b g.impossible h.impossible)
@@ -199,7 +198,7 @@ module _ (one : HaveOneJudgement) (s : StatedSchema) (policy : Policy) where
       → (o : CheckResult) × IsCheckResult s policy o
   unfolding AreJudged AreTyped
   typed_outcome h (inl g) = (Outcomes.passes g.0, record { passes = record { known = h; typed = g.1 }; impossible = g.2 })
-  typed_outcome h (inr g) = (Outcomes.refused (of_typing g.0), Passing.for_type h g.1)
+  typed_outcome h (inr g) = (Outcomes.refused g.0, Passing.for_type h g.1)
 
   named_outcome : (r : WalkResult) → ReportsNames s (names_of policy) r → (o : CheckResult) × IsCheckResult s policy o
   named_outcome (Ok u) h = typed_outcome h (all_judged one (expression_of policy) (policy_is_test one policy) (environments_of s))

@@ -1,4 +1,3 @@
-pub mod Faults
 pub mod Names
 pub mod Unknown
 pub mod Passing

@@ -13,7 +13,7 @@ use Rattle.type_checker.specs.evaluator.Evaluation.{EvaluatesTo}
 use Rattle.type_checker.specs.typing.Types.{boolean_type}
 use Rattle.type_checker.specs.typing.Environment.{Environment}
 use Rattle.type_checker.specs.typing.Conforming.{Conforms, Fits}
-use Rattle.validator.specs.declared.fault.TypeFault.{TypeFault}
+use Rattle.type_checker.specs.typing.declared.fault.TypeFault.{TypeFault}
 use Rattle.validator.specs.Names.{names_of}
 use Rattle.validator.specs.Unknown.{IsKnown}
 use Rattle.validator.specs.Passing.{environments_of, Passes, IsImpossible, IsVerdict, IsCheckRefused}

@@ -10,13 +10,12 @@ use Rattle.type_checker.specs.policy_grammar.declared.policy.Policy.{Policy}
 use Rattle.type_checker.specs.policy_grammar.PolicyExpression.{expression_of}
 use Rattle.type_checker.specs.schema.Schemas.{StatedSchema}
 use Rattle.type_checker.specs.typing.Types.{StaticType, false_type, IsBoolean}
-use Rattle.type_checker.specs.typing.Environment.{Environment, ExpressionFault}
+use Rattle.type_checker.specs.typing.Environment.{Environment}
+use Rattle.type_checker.specs.typing.declared.fault.TypeFault.{TypeFault}
 use Rattle.type_checker.specs.typing.Gained.{CapabilityList}
 use Rattle.type_checker.specs.typing.Typing.{Types}
 use Rattle.type_checker.specs.typing.Faults.{Faults}
 use Rattle.type_checker.specs.FromSchemas.{typing_environment_of}
-use Rattle.validator.specs.declared.fault.TypeFault.{TypeFault}
-use Rattle.validator.specs.Faults.{of_typing}
 use Rattle.validator.specs.Names.{names_of}
 use Rattle.validator.specs.Unknown.{IsKnown, FirstUnknown}
 
@@ -35,10 +34,10 @@ HasBooleanType x env = (t : StaticType) × IsBoolean t × HasType x t env
 
 -- `FirstFaulty x envs n` holds if `n` is an error of typing `x` in one of the environments `envs`, and `x` has a
 -- boolean type in each environment before that one.
-pub data FirstFaulty (x : Expr) : List Environment → ExpressionFault → Type 0 where
-  faulty_here : {env : Environment} {envs : List Environment} {n : ExpressionFault} → Faults env [] x n
+pub data FirstFaulty (x : Expr) : List Environment → TypeFault → Type 0 where
+  faulty_here : {env : Environment} {envs : List Environment} {n : TypeFault} → Faults env [] x n
       → FirstFaulty x (env ∷ envs) n
-  faulty_later : {env : Environment} {envs : List Environment} {n : ExpressionFault} → HasBooleanType x env
+  faulty_later : {env : Environment} {envs : List Environment} {n : TypeFault} → HasBooleanType x env
       → FirstFaulty x envs n → FirstFaulty x (env ∷ envs) n
 
 -- `Passes s policy` holds if the schema `s` declares each name in `policy`, and the expression of `policy` has a
@@ -62,5 +61,5 @@ pub record IsVerdict (s : StatedSchema) (policy : Policy) (told : Bool) : Type 0
 -- has one.
 pub data IsCheckRefused (s : StatedSchema) (policy : Policy) : TypeFault → Type 0 where
   for_name : {f : TypeFault} → FirstUnknown s (names_of policy) f → IsCheckRefused s policy f
-  for_type : {n : ExpressionFault} → All (IsKnown s) (names_of policy)
-      → FirstFaulty (expression_of policy) (environments_of s) n → IsCheckRefused s policy (of_typing n)
+  for_type : {f : TypeFault} → All (IsKnown s) (names_of policy)
+      → FirstFaulty (expression_of policy) (environments_of s) f → IsCheckRefused s policy f

@@ -4,17 +4,16 @@ ghost use Rattle.type_checker.specs.policy_grammar.PolicyExpression.{expression_
 ghost use Rattle.type_checker.specs.schema.Views.{schema_view, environment_view};
 ghost use Rattle.type_checker.specs.FromSchemas.{typing_environment_of};
 ghost use Rattle.validator.specs.Passing.{IsVerdict, IsCheckRefused};
-ghost use Rattle.validator.specs.inner.Checking.{scope_parts, typing_environments, ReportsFalse, IsJudged, AreJudged};
+ghost use Rattle.validator.specs.inner.Checking.{scope_parts, typing_environments, IsJudged, AreJudged};
 ghost use Rattle.validator.specs.inner.Walking.{parts_check};
 
-use crate::fault::TypeFault;
 use crate::scope::parts_of;
 use crate::walking::{walk, walk_each};
 use grammar_core::Expr;
 use std::alloc::Global;
 use type_checker::{
-    Environment, ExpressionFault, Policy, Schema, StaticType, TypingEnvironment,
-    expressions_have_one_judgement, judge_all,
+    Environment, Policy, Schema, TypeFault, TypingEnvironment, expressions_have_one_judgement,
+    judge_all,
 };
 
 /// The result of validating a policy that passes.
@@ -35,16 +34,6 @@ fn check_names(schema: &Schema, parts: &[Expr], policy: &Policy) -> Result<(), T
     walk(schema, condition)
 }
 
-/// Returns whether the type in `found` is False, or the validator's error for the error in `found`.
-fn reported_false<'a>(found: Result<StaticType<'a>, ExpressionFault>) -> Result<bool, TypeFault>
-    ensures { ReportsFalse found.entry result }
-{
-    match found {
-        Ok(found) => Ok(found.is_false()),
-        Err(fault) => Err(TypeFault::from(fault)),
-    }
-}
-
 /// Returns whether a policy's type is False in an environment, or the error of typing it there, or `NoMemory`. `parts`
 /// are the expressions of the policy's scope.
 fn is_false_at(
@@ -60,7 +49,8 @@ fn is_false_at(
 {
     expressions_have_one_judgement();
     let env = TypingEnvironment::new(schema, environment);
-    reported_false(judge_all(alloc, env, parts, &policy.condition))
+    let found = judge_all(alloc, env, parts, &policy.condition)?;
+    Ok(found.is_false())
 }
 
 /// Returns whether a policy's type is False in each of `environments`, or the error of the first environment that has

@@ -8,8 +8,7 @@ ghost use Rattle.validator.specs.Names.{entity, tested_type};
 ghost use Rattle.validator.specs.Unknown.{IsKnown, IsUnknown};
 ghost use Rattle.validator.specs.inner.Walking.{other_check, entity_check};
 
-use crate::fault::TypeFault;
-use type_checker::{Schema, is_action_type, stated_schemas_are_well_formed};
+use type_checker::{Schema, TypeFault, is_action_type, stated_schemas_are_well_formed};
 use values::{EntityUid, TypeName};
 
 /// Returns whether the name of an action's type is less than `name`, by bytes.

@@ -6,20 +6,18 @@
 #![tactic(auto)]
 
 mod checking;
-mod fault;
 mod known;
 mod laws;
 mod scope;
 mod walking;
 
 pub use checking::{Verdict, check};
-pub use fault::TypeFault;
 pub use known::{unknown_entity, unknown_tested_type};
 pub use laws::{passing_policies_are_sound, policies_have_one_outcome};
 pub use scope::{drop_expression, expression_of};
 
 // of this layer
-pub use type_checker::parents_determine_ancestors;
+pub use type_checker::{TypeFault, parents_determine_ancestors};
 
 // of lower layers
 pub use type_checker::{

@@ -4,11 +4,10 @@ ghost use Rattle.type_checker.specs.schema.Views.{schema_view};
 ghost use Rattle.validator.specs.inner.Walking.{in_turn, literal_check, operator_check, walk, named_walk};
 ghost use Rattle.grammar_core.specs.Size.{values_of};
 
-use crate::fault::TypeFault;
 use crate::known::{check_entity, check_tested_type};
 use grammar_core::{Expr, Literal, Named, Unary};
 use plain::Shared;
-use type_checker::Schema;
+use type_checker::{Schema, TypeFault};
 
 /// Checks the entity of an entity literal; other literals contain no name.
 fn check_literal(schema: &Schema, literal: &Literal) -> Result<(), TypeFault>

@@ -10,7 +10,7 @@ ghost use Rattle.weirbowl.specs.Opening.{IsOpened, IsOpenError, code_of};
 use crate::embedded::EmbeddedSite;
 use http_replies::{LINE_ROOM, Scratch, Site, is_site_name, site_names_are_recognized};
 use plain::{NoMemory, Shared};
-use schema_decisions::{Refusal, Schema, schema_in};
+use schema_decisions::{Refusal, Schema, parse_schema};
 use std::alloc::Global;
 
 /// The reason why no site is opened.
@@ -73,7 +73,7 @@ fn open_named(alloc: Global, schema: &[u8], name: &str) -> Result<EmbeddedSite, 
     ensures opened { IfOk result (IsOpened schema.now name.now) }
     ensures failed { IfErr result (λ r. (r ≡ no_memory → ⊥) → IsSchemaRefused schema.now r) }
 {
-    let schema = schema_in(alloc, schema)?;
+    let schema = parse_schema(alloc, schema)?;
     Ok(open_under(alloc, schema, name)?)
 }
 

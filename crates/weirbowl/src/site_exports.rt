@@ -8,7 +8,7 @@ ghost use Rattle.weirbowl.specs.SlotCalls.{Calls, Opens, Closes, RepeatsBody};
 
 use crate::call_result::CallResult;
 use crate::slot::SiteSlot;
-use crate::slot_calls::{call_in, close_in, open_in, repeat_body};
+use crate::slot_calls::{call_slot, close_slot, open_slot, repeat_body};
 use http_replies::Input;
 use std::alloc::Global;
 
@@ -23,7 +23,7 @@ pub extern "C" fn weirbowl_open(
 ) -> u32
     ensures { Opens slot.old.pointer.site schema.now name.now result slot.new.pointer.site }
 {
-    open_in(alloc, slot, schema, name)
+    open_slot(alloc, slot, schema, name)
 }
 
 /// Closes the site. Returns whether one was open.
@@ -31,7 +31,7 @@ pub extern "C" fn weirbowl_open(
 pub extern "C" fn weirbowl_close(alloc: Global, slot: &mut SiteSlot) -> bool
     ensures { Closes slot.old.pointer.site result slot.new.pointer.site }
 {
-    close_in(alloc, slot)
+    close_slot(alloc, slot)
 }
 
 /// Copies the body of the last reply to `out` again. The status is 200, whatever the status of the last reply.
@@ -56,7 +56,7 @@ pub extern "C" fn weirbowl_authorize(
 ) -> CallResult
     ensures { Calls slot.old.pointer.site (input.Authorize request.now) result out.old out.new slot.new.pointer.site }
 {
-    call_in(alloc, slot, &Input::Authorize(request), out)
+    call_slot(alloc, slot, &Input::Authorize(request), out)
 }
 
 /// Puts the policy with this id and this text.
@@ -71,7 +71,7 @@ pub extern "C" fn weirbowl_put_policy(
     ensures { Calls slot.old.pointer.site (input.PutPolicy id.now text.now) result out.old out.new
         slot.new.pointer.site }
 {
-    call_in(alloc, slot, &Input::PutPolicy(id, text), out)
+    call_slot(alloc, slot, &Input::PutPolicy(id, text), out)
 }
 
 /// Looks up the policy with this id.
@@ -84,7 +84,7 @@ pub extern "C" fn weirbowl_get_policy(
 ) -> CallResult
     ensures { Calls slot.old.pointer.site (input.GetPolicy id.now) result out.old out.new slot.new.pointer.site }
 {
-    call_in(alloc, slot, &Input::GetPolicy(id), out)
+    call_slot(alloc, slot, &Input::GetPolicy(id), out)
 }
 
 /// Deletes the policy with this id.
@@ -97,7 +97,7 @@ pub extern "C" fn weirbowl_delete_policy(
 ) -> CallResult
     ensures { Calls slot.old.pointer.site (input.DeletePolicy id.now) result out.old out.new slot.new.pointer.site }
 {
-    call_in(alloc, slot, &Input::DeletePolicy(id), out)
+    call_slot(alloc, slot, &Input::DeletePolicy(id), out)
 }
 
 /// Puts the entity with this JSON.
@@ -110,7 +110,7 @@ pub extern "C" fn weirbowl_put_entity(
 ) -> CallResult
     ensures { Calls slot.old.pointer.site (input.PutEntity entity.now) result out.old out.new slot.new.pointer.site }
 {
-    call_in(alloc, slot, &Input::PutEntity(entity), out)
+    call_slot(alloc, slot, &Input::PutEntity(entity), out)
 }
 
 /// Deletes the entity with the uid in this JSON.
@@ -123,7 +123,7 @@ pub extern "C" fn weirbowl_delete_entity(
 ) -> CallResult
     ensures { Calls slot.old.pointer.site (input.DeleteEntity uid.now) result out.old out.new slot.new.pointer.site }
 {
-    call_in(alloc, slot, &Input::DeleteEntity(uid), out)
+    call_slot(alloc, slot, &Input::DeleteEntity(uid), out)
 }
 
 /// Writes the state, as a message to other sites.
@@ -131,7 +131,7 @@ pub extern "C" fn weirbowl_delete_entity(
 pub extern "C" fn weirbowl_state(alloc: Global, slot: &mut SiteSlot, out: &mut [u8]) -> CallResult
     ensures { Calls slot.old.pointer.site input.State result out.old out.new slot.new.pointer.site }
 {
-    call_in(alloc, slot, &Input::State, out)
+    call_slot(alloc, slot, &Input::State, out)
 }
 
 /// Writes the summary, as a message to other sites.
@@ -139,7 +139,7 @@ pub extern "C" fn weirbowl_state(alloc: Global, slot: &mut SiteSlot, out: &mut [
 pub extern "C" fn weirbowl_summary(alloc: Global, slot: &mut SiteSlot, out: &mut [u8]) -> CallResult
     ensures { Calls slot.old.pointer.site input.Summary result out.old out.new slot.new.pointer.site }
 {
-    call_in(alloc, slot, &Input::Summary, out)
+    call_slot(alloc, slot, &Input::Summary, out)
 }
 
 /// Writes a delta: the entries whose names `summary` lacks or has with a smaller stamp.
@@ -152,7 +152,7 @@ pub extern "C" fn weirbowl_delta(
 ) -> CallResult
     ensures { Calls slot.old.pointer.site (input.Delta summary.now) result out.old out.new slot.new.pointer.site }
 {
-    call_in(alloc, slot, &Input::Delta(summary), out)
+    call_slot(alloc, slot, &Input::Delta(summary), out)
 }
 
 /// Applies the updates of a message: a state or a delta of another site.
@@ -165,5 +165,5 @@ pub extern "C" fn weirbowl_merge(
 ) -> CallResult
     ensures { Calls slot.old.pointer.site (input.Take message.now) result out.old out.new slot.new.pointer.site }
 {
-    call_in(alloc, slot, &Input::Take(message), out)
+    call_slot(alloc, slot, &Input::Take(message), out)
 }

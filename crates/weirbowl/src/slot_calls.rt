@@ -38,7 +38,7 @@ fn report(status: StatusCode, body: &[u8], out: &mut [u8]) -> CallResult
 
 /// Opens an empty site in a slot. Returns 0 on success, 3 if a site is open there already, else the number of the
 /// error.
-pub(crate) fn open_in(alloc: Global, slot: &mut SiteSlot, schema: &[u8], name: &[u8]) -> u32
+pub(crate) fn open_slot(alloc: Global, slot: &mut SiteSlot, schema: &[u8], name: &[u8]) -> u32
     ensures { Opens slot.old.pointer.site schema.now name.now result slot.new.pointer.site }
 {
     if slot.is_open {
@@ -58,7 +58,7 @@ pub(crate) fn open_in(alloc: Global, slot: &mut SiteSlot, schema: &[u8], name: &
 }
 
 /// Closes the site of a slot. Returns whether one was open.
-pub(crate) fn close_in(alloc: Global, slot: &mut SiteSlot) -> bool
+pub(crate) fn close_slot(alloc: Global, slot: &mut SiteSlot) -> bool
     ensures { Closes slot.old.pointer.site result slot.new.pointer.site }
 {
     if !slot.is_open {
@@ -71,7 +71,7 @@ pub(crate) fn close_in(alloc: Global, slot: &mut SiteSlot) -> bool
 }
 
 /// Gives an input to the site in a slot, and copies the body of its reply into `out`, if it fits.
-pub(crate) fn call_in(
+pub(crate) fn call_slot(
     alloc: Global,
     slot: &mut SiteSlot,
     input: &Input<'_>,

@@ -5,7 +5,7 @@ use Rattle.serde_json.specs.Data.{Data, Items, no_items, item, Members, no_membe
 use Rattle.serde_json.specs.Data as json
 use Rattle.serde_json.specs.Find.{get, as_object}
 use Rattle.schema_types.specs.Cedar.{Cedar, CedarFields, no_fields, field}
-use Rattle.entities.specs.declared.value_fault.ValueFault.{ValueFault}
+use Rattle.entities.specs.declared.fault.EntityFault.{EntityFault}
 use Rattle.entities.specs.Parts.{element_of, fields_in, declared_at}
 use Rattle.entities.specs.EntityForms.{or_empty}
 use Rattle.entities.specs.Typing.{typed_value, with_or}
@@ -28,7 +28,7 @@ under step None = None
 
 -- `whole_path r` is the empty path, which leads to the JSON value as a whole, if the parsing result `r` is an error;
 -- else `None`.
-abbrev pub whole_path : {A : Type 0} → Result A ValueFault → Option (List Step)
+abbrev pub whole_path : {A : Type 0} → Result A EntityFault → Option (List Step)
 whole_path (Ok v) = None
 whole_path (Err f) = Some []
 

@@ -4,7 +4,8 @@ use Rattle.grammar_core.specs.Size.{height}
 use Rattle.grammar_core.specs.declared.expr.Expr.{Expr}
 use Rattle.grammar_core.specs.declared.expr.Expr.TheOpen.{Expr-F}
 use Rattle.typing.specs.Types.{IsBoolean}
-use Rattle.typing.specs.Environment.{Environment, ExpressionFault}
+use Rattle.typing.specs.Environment.{Environment}
+use Rattle.typing.specs.declared.fault.TypeFault.{TypeFault}
 use Rattle.typing.specs.Typing.{Types}
 use Rattle.typing.specs.Faults.{Faults}
 use Rattle.type_checker.specs.Views.{static_view, boolean_view}
@@ -13,7 +14,6 @@ use Rattle.type_checker.specs.type_capabilities.declared.capability.Capability.{
 use Rattle.type_checker.specs.declared.static_type.BooleanType.{BooleanType}
 use Rattle.type_checker.specs.declared.static_type.BooleanType.TheVariants as truth
 use Rattle.type_checker.specs.declared.static_type.StaticType.{StaticType}
-use Rattle.validator.specs.Faults.{of_typing}
 use Rattle.fault_places.specs.declared.judging.Judgement.{Judgement}
 use Rattle.fault_places.specs.declared.judging.Judgement.TheVariants as judgement
 use Rattle.fault_places.specs.declared.steps.Next.{Next}
@@ -23,7 +23,7 @@ use Rattle.typing.specs.BlamedExpressions.{Blame, under, blamed}
 
 -- `IsUntyped env ps x qs` holds if `x` has an error in `env` under the capabilities `ps`, and `qs` is `ps`.
 pub record IsUntyped (env : Environment) (ps : List Capability) (x : Expr) (qs : List Capability) : Type 0 where
-  pub error : ExpressionFault
+  pub error : TypeFault
   pub has_error : Faults env (capabilities ps) x error
   pub unchanged : qs ≡ ps
 
@@ -39,11 +39,11 @@ pub record IsTyped (env : Environment) (ps : List Capability) (ts : List StaticT
   pub appended : us ≡ ts ++ kind ∷ []
   pub boolean : MatchOption o (¬ IsBoolean (static_view kind)) (λ b. static_view kind ≡ boolean_view b)
 
--- `IsJudged env ps ts x qs us j` holds if `j` is `Faulty f`, `IsUntyped env ps x qs` holds, and `f` is the error of `x`
--- as the validator reports it; or if `j` is `Typed o` and `IsTyped env ps ts x qs us o` holds.
+-- `IsJudged env ps ts x qs us j` holds if `j` is `Faulty f`, `IsUntyped env ps x qs` holds, and `f` is the error of
+-- `x`; or if `j` is `Typed o` and `IsTyped env ps ts x qs us o` holds.
 abbrev pub IsJudged : Environment → List Capability → List StaticType → Expr → List Capability → List StaticType
     → Judgement → Type 0
-IsJudged env ps ts x qs us (judgement.Faulty f) = (u : IsUntyped env ps x qs) × (f ≡ of_typing u.error)
+IsJudged env ps ts x qs us (judgement.Faulty f) = (u : IsUntyped env ps x qs) × (f ≡ u.error)
 IsJudged env ps ts x qs us (judgement.Typed o) = IsTyped env ps ts x qs us o
 
 -- `last_of o` is the last part of a path: the index `o` of the blamed operand, or nothing if the form itself is blamed.
@@ -60,13 +60,13 @@ stopped x o ts = record { path = last_of o; form = x; types = map static_view ts
 -- what the second does, with the index `i` in front of the path.
 abbrev pub GoesDown : Environment → List Capability → Expr → List Capability → ℕ → Expr → Type 0
 GoesDown env ps x qs i y = (height y < height x)
-    × ((n : ExpressionFault) (h : Faults env (capabilities ps) x n)
+    × ((n : TypeFault) (h : Faults env (capabilities ps) x n)
     → (g : Faults env (capabilities qs) y n) × (blamed h ≡ under i (blamed g)))
 
 -- `StopsAt env ps x o ts` holds if each derivation of an error of `x` under the capabilities `ps` blames the operand
 -- `o` of `x`, or `x` itself if `o` is `None`, for a demand about the types `ts`.
 abbrev pub StopsAt : Environment → List Capability → Expr → Option ℕ → List StaticType → Type 0
-StopsAt env ps x o ts = (n : ExpressionFault) (h : Faults env (capabilities ps) x n) → blamed h ≡ stopped x o ts
+StopsAt env ps x o ts = (n : TypeFault) (h : Faults env (capabilities ps) x n) → blamed h ≡ stopped x o ts
 
 -- `IsStep env ps x qs ts o` holds if `o` is the step from the form `x` under the capabilities `ps`: to an operand that
 -- has the error, under the capabilities `qs`, or to an operand that `x` blames for a demand about the types `ts`; or if
@@ -109,5 +109,5 @@ below p b = record { path = p ++ b.path; form = b.form; types = b.types }
 -- one of the same error of `x` under the capabilities `ps`, and the first blames what the second does, with `p` in
 -- front of the path.
 abbrev pub Reaches : Environment → Expr → List ℕ → List Capability → Expr → Type 0
-Reaches env whole p ps x = (n : ExpressionFault) (h : Faults env [] whole n)
+Reaches env whole p ps x = (n : TypeFault) (h : Faults env [] whole n)
     → (g : Faults env (capabilities ps) x n) × (blamed h ≡ below p (blamed g))

@@ -8,8 +8,5 @@ use Rattle.program_exchanges.specs.declared.fault.PullFault.TheVariants.{Refused
 
 -- `pull_fault f` is the error `f` of a fetch as an error of a pull.
 abbrev pub pull_fault : FetchFault → PullFault
-pull_fault fetch.Read = Network network.Read
-pull_fault fetch.Write = Network network.Write
-pull_fault fetch.BadReply = Network network.BadReply
-pull_fault fetch.Ended = Network network.Ended
 pull_fault fetch.NoMemory = Refused no_memory
+pull_fault f = Network (network.Fetch f)

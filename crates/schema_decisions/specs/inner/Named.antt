@@ -4,7 +4,7 @@ use Rattle.std.specs.Global.{Global}
 use Rattle.decision_texts.specs.policy_grammar.declared.policy.Policy.{Policy}
 use Rattle.decision_texts.specs.authoriser.Answers.{NamedPolicy}
 use Rattle.validator.specs.declared.checking.Verdict.{Verdict}
-use Rattle.validator.specs.declared.fault.TypeFault.{TypeFault}
+use Rattle.validator.specs.typing.declared.fault.TypeFault.{TypeFault}
 use Rattle.validator.specs.Outcomes.{CheckResult, passes, refused}
 use Rattle.schema_decisions.specs.Checks.{line_end}
 

@@ -1,13 +1,11 @@
 -- Defines the parts of commands: the results of their checks, and the stamping and storing after the checks.
 use Rattle.std.specs.Prelude.{◌≡◌, ◌↔◌, ◌<◌, ℕ, Bool, true, false, List, Option, Some, None, Result, Ok, Err, IsTrue}
-use Rattle.plain.specs.Words.{IsPath}
 use Rattle.values.specs.declared.entity_uid.EntityUid.{EntityUid}
 use Rattle.values.specs.declared.name.Name.{Name}
 use Rattle.serde_json.specs.Data.{Data}
 use Rattle.site_store.specs.policy_grammar.declared.policy.Policy.{Policy}
 use Rattle.site_store.specs.schema.Schemas.{StatedSchema}
 use Rattle.site_store.specs.entity_data.declared.entity.Entity.{Entity}
-use Rattle.entities.specs.Canonical.{canonical_text}
 use Rattle.entities.specs.Entities.{entity_stated_in}
 use Rattle.site_store.specs.stamped_store.declared.entry.ReadText.{ReadText}
 use Rattle.site_store.specs.stamped_store.declared.entry.Stamp.{Stamp}
@@ -17,7 +15,7 @@ use Rattle.sync_messages.specs.validator.Passing.{IsImpossible}
 use Rattle.site.specs.declared.fault.SiteFault.{SiteFault}
 use Rattle.site.specs.declared.fault.SiteFault.TheVariants as fault
 use Rattle.site.specs.declared.outcome.Put.{Put}
-use Rattle.site.specs.Admitted.{IsEntityUnder, IsAdmitted, entity_stated, IsNoRequest}
+use Rattle.site.specs.Admitted.{IsAdmitted, IsNoRequest}
 use Rattle.site.specs.Steps.{Records, IsClockFull, most_count}
 
 -- `RecordsOr n s name body r t` holds if, at the site named `n`, storing `body` under `name` with the stamp `r` leads
@@ -52,20 +50,6 @@ put_result impossible (Err f) = Err f
 -- `IsDescribed schema e` holds if some JSON describes the entity `e` under `schema`.
 abbrev pub IsDescribed : StatedSchema → Entity → Type 0
 IsDescribed schema e = (d : Data) × (entity_stated_in schema d ≡ Ok e)
-
--- `IsStatedBy schema json b` holds if `json` describes the entity in `b` under `schema`, and the text in `b` is this
--- entity's canonical text, which is parsed under `schema` as the entity. The entity's type name is a path.
-pub record IsStatedBy (schema : StatedSchema) (json : Option Data) (b : ReadText Entity) : Type 0 where
-  pub states : entity_stated schema json ≡ Ok b.read
-  pub path : IsPath b.read.uid.type_name
-  pub canonical : b.text ≡ canonical_text b.read
-  pub reads : IsEntityUnder schema b.read.uid b.text b.read
-
--- `IsNoEntityFault schema json f` holds if `json` does not describe an entity under `schema`, and `f` is the site's
--- error for `json`.
-abbrev pub IsNoEntityFault : StatedSchema → Option Data → SiteFault → Type 0
-IsNoEntityFault schema json (fault.Entity f) = entity_stated schema json ≡ Err f
-IsNoEntityFault schema json _ = ⊥
 
 -- `IsNoRequestFault schema json f` holds if `json` does not describe a request under `schema`, and `f` is the site's
 -- error for `json`.

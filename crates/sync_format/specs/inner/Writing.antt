@@ -1,7 +1,11 @@
--- Defines the JSON of those entries of a store whose names a summary lacks or has with a smaller stamp.
-use Rattle.std.specs.Prelude.{List, [], ◌∷◌, Bool, Option, Some, if◌then◌else◌}
+-- Defines the JSON of those entries of a store whose names a summary lacks or has with a smaller stamp, and the members
+-- of a message behind its entries.
+use Rattle.std.specs.Prelude.{ℕ, List, [], ◌∷◌, Bool, Option, Some, codes, if◌then◌else◌}
 use Rattle.std.specs.List.{flat_map}
-use Rattle.serde_json.specs.Data.{Data}
+use Rattle.json.specs.Token.{end_object}
+use Rattle.json.specs.Written.{Written}
+use Rattle.serde_json.specs.Data.{Data, number, unsigned, string}
+use Rattle.entity_uids.specs.Tokens.{AppendsMember, AppendsTokens}
 use Rattle.values.specs.declared.name.Name.{Name}
 use Rattle.values.specs.Names.{name_cmp}
 use Rattle.stamped_store.specs.declared.entry.Entry.{Entry}
@@ -30,3 +34,14 @@ missing_json m u = if is_new m u then entry_json u ∷ [] else []
 -- has with a smaller stamp. Here `name` gives the name that a key represents.
 abbrev pub all_missing_json : {K P : Type 0} → (K → Name) → Summary → List (K × Entry P) → List Data
 all_missing_json name m es = flat_map (missing_json m) (abstract_entries name es)
+
+-- `EndsMessage kind label old new` holds if the output `new` is `old` with the end of a message appended: the members
+-- `kind`, `schema` and `version`, and the bracket that closes the object.
+pub record EndsMessage (kind label : List ℕ) (old new : Written) : Type 0 where
+  pub kinded : Written
+  pub labelled : Written
+  pub versioned : Written
+  pub kind_is : AppendsMember old kinded (codes "kind") (string kind)
+  pub label_is : AppendsMember kinded labelled (codes "schema") (string label)
+  pub version_is : AppendsMember labelled versioned (codes "version") (number (unsigned 2))
+  pub closed : AppendsTokens versioned new (end_object ∷ [])

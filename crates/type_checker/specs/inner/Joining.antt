@@ -2,7 +2,9 @@
 use Rattle.std.specs.Prelude.{[], Option, Some, None}
 use Rattle.grammar_core.specs.declared.expr.Expr.{Expr}
 use Rattle.typing.specs.Types.{StaticType, IsBoolean}
-use Rattle.typing.specs.Environment.{Environment, ExpressionFault, unexpected}
+use Rattle.typing.specs.Environment.{Environment}
+use Rattle.typing.specs.declared.fault.TypeFault.{TypeFault}
+use Rattle.typing.specs.declared.fault.TypeFault.TheVariants.{Unexpected}
 use Rattle.typing.specs.Gained.{CapabilityList}
 use Rattle.typing.specs.Rows.{and_type}
 use Rattle.typing.specs.Typing.{Types}
@@ -27,5 +29,5 @@ pub record Leads (env : Environment) (s : Option StaticType) (K : CapabilityList
   pub types : (t : StaticType) (L : CapabilityList) → Types env K x t L → IsSide s t
       → (M : CapabilityList) × Types env [] whole (and_so_far s t) M
   pub no_side : (t : StaticType) (L : CapabilityList) → Types env K x t L → ¬ IsSide s t
-      → Faults env [] whole unexpected
-  pub faults : (n : ExpressionFault) → Faults env K x n → Faults env [] whole n
+      → Faults env [] whole Unexpected
+  pub faults : (n : TypeFault) → Faults env K x n → Faults env [] whole n

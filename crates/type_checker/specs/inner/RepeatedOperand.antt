@@ -8,16 +8,16 @@ use Rattle.typing.specs.Environment.{Environment}
 use Rattle.typing.specs.Literals.{UndecidedByLiterals}
 use Rattle.typing.specs.Rows.{MayBeTrue}
 use Rattle.type_checker.specs.Views.{static_view}
-use Rattle.type_checker.specs.declared.fault.ExpressionFault.{ExpressionFault}
+use Rattle.typing.specs.declared.fault.TypeFault.{TypeFault}
 use Rattle.type_checker.specs.declared.typed.Typed.{Typed}
 
 -- `MayBeTrueResult r` holds if the result `r` of typing is True or Bool, so that the typed expression may be true.
-abbrev pub MayBeTrueResult : Result Typed ExpressionFault → Type 0
+abbrev pub MayBeTrueResult : Result Typed TypeFault → Type 0
 MayBeTrueResult r = MatchResult r (λ t. MayBeTrue (static_view t.kind)) (λ f. ⊥)
 
 -- `RepeatsTestedOperand env left test op a b n` holds if `left` is `a is n`, the result `test` of typing `left` is True
 -- or Bool, and literals do not decide the result of `a op b` in the environment `env`.
-abbrev pub RepeatsTestedOperand : Environment → Expr → Result Typed ExpressionFault → Binary → Expr → Expr → List ℕ
+abbrev pub RepeatsTestedOperand : Environment → Expr → Result Typed TypeFault → Binary → Expr → Expr → List ℕ
     → Type 0
 RepeatsTestedOperand env left test op a b n =
     (left ≡ form.Unary (Is n) a) × MayBeTrueResult test × UndecidedByLiterals env op a b

@@ -2,7 +2,7 @@
 use Rattle.std.specs.Prelude.{ℕ, List, Bool, true, false, not, ◌&&◌, Option, Some, None, Err, if◌then◌else◌}
 use Rattle.std.specs.Str.{bytes_eq}
 use Rattle.typing.specs.Types.{StaticType, entity_type, set_type, decimal_type, ipaddr_type, common, same_requirement}
-use Rattle.typing.specs.Environment.{unexpected}
+use Rattle.typing.specs.declared.fault.TypeFault.TheVariants.{Unexpected}
 use Rattle.typing.specs.Rows.{Row, if_common}
 use Rattle.type_checker.specs.declared.parts.FieldPart.{FieldPart}
 use Rattle.type_checker.specs.declared.parts.FieldPair.{FieldPair}
@@ -26,12 +26,12 @@ are_unequal m n = false
 -- `contains_type s t` is the type of `contains` on operands of the types `s` and `t`.
 abbrev pub contains_type : StaticType → StaticType → Row
 contains_type (set_type s) t = if_common (common s t)
-contains_type s t = Err unexpected
+contains_type s t = Err Unexpected
 
 -- `sets_type s t` is the type of `containsAll` and `containsAny` on operands of the types `s` and `t`.
 abbrev pub sets_type : StaticType → StaticType → Row
 sets_type s (set_type t) = contains_type s t
-sets_type s t = Err unexpected
+sets_type s t = Err Unexpected
 
 -- `paired a b` is the pair of the fields `a` and `b` if both are present with one key and the same requirement, else
 -- `None`.

@@ -10,15 +10,11 @@ use Rattle.type_checker.specs.schema.declared.parts.Environment as given
 use Rattle.type_checker.specs.schema.Schemas.{StatedSchema}
 use Rattle.type_checker.specs.schema.Views.{environment_view}
 use Rattle.type_checker.specs.typing.Types.{false_type}
-use Rattle.type_checker.specs.typing.Environment.{Environment, ExpressionFault}
+use Rattle.type_checker.specs.typing.Environment.{Environment}
+use Rattle.type_checker.specs.typing.declared.fault.TypeFault.{TypeFault}
 use Rattle.type_checker.specs.typing.Faults.{Faults}
 use Rattle.type_checker.specs.FromSchemas.{typing_environment_of}
-use Rattle.type_checker.specs.declared.fault.ExpressionFault.{ExpressionFault as FoundFault}
-use Rattle.type_checker.specs.declared.static_type.StaticType.{StaticType}
-use Rattle.type_checker.specs.Views.{static_view}
-use Rattle.validator.specs.declared.fault.TypeFault.{TypeFault}
-use Rattle.validator.specs.declared.fault.TypeFault.TheVariants.{NoMemory}
-use Rattle.validator.specs.Faults.{of_typing, of_types}
+use Rattle.type_checker.specs.typing.declared.fault.TypeFault.TheVariants.{NoMemory}
 use Rattle.validator.specs.Passing.{HasType, HasBooleanType, FirstFaulty}
 
 -- `scope_parts scope` is the list of the expressions of `scope`: principal, action, resource.
@@ -30,19 +26,11 @@ scope_parts scope =
 abbrev pub typing_environments : StatedSchema → List given.Environment → List Environment
 typing_environments s ps = map (λ p. typing_environment_of s (environment_view p)) ps
 
--- `ReportsFalse found r` holds if `r` is whether the type in `found` is False, or the validator's error for the error
--- in `found`.
-abbrev pub ReportsFalse : Result StaticType FoundFault → Result Bool TypeFault → Type 0
-ReportsFalse (Ok t) (Ok b) = Decides b (static_view t ≡ false_type)
-ReportsFalse (Ok t) (Err f) = ⊥
-ReportsFalse (Err f) (Ok b) = ⊥
-ReportsFalse (Err f) (Err g) = g ≡ of_types f
-
 -- `IsJudged env x r` holds if `x` has a boolean type in `env`, and `r` is whether this type is False. It also holds if
 -- `r` is `NoMemory`, or the error of typing `x` in `env`.
 abbrev pub IsJudged : Environment → Expr → Result Bool TypeFault → Type 0
 IsJudged env x (Ok b) = HasBooleanType x env × Decides b (HasType x false_type env)
-IsJudged env x (Err f) = f ≢ NoMemory → (n : ExpressionFault) × (f ≡ of_typing n) × Faults env [] x n
+IsJudged env x (Err f) = f ≢ NoMemory → Faults env [] x f
 
 -- `AreJudged x before envs r` holds if `x` has a boolean type in each of `envs`, and `r` is whether `before` is true
 -- and each of these types is False. It also holds if `r` is `NoMemory`, or the error of the first of `envs` that has
@@ -50,4 +38,4 @@ IsJudged env x (Err f) = f ≢ NoMemory → (n : ExpressionFault) × (f ≡ of_t
 abbrev pub AreJudged : Expr → Bool → List Environment → Result Bool TypeFault → Type 0
 AreJudged x before envs (Ok b) =
     All (HasBooleanType x) envs × Decides b ((before ≡ true) × All (HasType x false_type) envs)
-AreJudged x before envs (Err f) = f ≢ NoMemory → (n : ExpressionFault) × (f ≡ of_typing n) × FirstFaulty x envs n
+AreJudged x before envs (Err f) = f ≢ NoMemory → FirstFaulty x envs f

@@ -1,6 +1,5 @@
-use Rattle.entities.proofs.EntityLemmas.{canonical_is_read, canonical_nests, canonical_is_one, parents_ascend}
-use Rattle.entity_data.proofs.UidLemmas.{sorted_set}
-use Rattle.entities.proofs.UidSetLemmas.{same_members}
+use Rattle.entities.proofs.EntityLemmas.{canonical_is_read, canonical_nests, canonical_is_one}
+use Rattle.entity_data.proofs.UidLemmas.{sorted_set, same_members}
 use Rattle.entities.proofs.laws.entities_read_back.Goals as goal
 
 pub returns-clause-read : goal.returns-clause-read
@@ -29,9 +28,6 @@ returns-clause-one c = canonical_is_one (record {
   again = c.records_are_read_again.ensures.again;
   nests = c.records_are_read_again.ensures.nests;
 })
-
-pub returns-clause-parents : goal.returns-clause-parents
-returns-clause-parents c = parents_ascend
 
 pub returns-clause-members : goal.returns-clause-members
 returns-clause-members c = λ us. (sorted_set us, same_members us)

@@ -1,4 +1,4 @@
-use Rattle.type_checker.specs.Views.{static_view, fault_view, typing_environment}
+use Rattle.type_checker.specs.Views.{static_view, typing_environment}
 use Rattle.fault_places.proofs.Declared.{declared, undeclared}
 use Rattle.fault_places.proofs.attributes.is_declared.Goals as goal
 
@@ -10,4 +10,4 @@ returns-in-Ok c =
 pub returns-in_default : goal.returns-in_default
 returns-in_default c =
     undeclared (typing_environment c.new-env.result) _ c.new-env.ensures c.args.name.now (static_view c.args.owner.now)
-    (fault_view c.in-Err.fault) (c.in-Err.ensures.row c.in_default.not-NoMemory)
+    c.in-Err.fault (c.in-Err.ensures.row c.in_default.not-NoMemory)

@@ -2,7 +2,7 @@ use Rattle.std.proofs.Common.{ap, ◌∙◌, drop}
 use Rattle.grammar_syntax.specs.declared.tree.ExprTree.{out-ExprTree}
 use Rattle.grammar_syntax.specs.declared.tree.ExprTree.TheVariants as t
 use Rattle.grammar_syntax.specs.declared.tree.ExprTree.TheOpen.{ExprTree-F as tree}
-use Rattle.fault_places.specs.Forms.{form_of, row_at, entry_at, one_at, minus_operand, compared_at}
+use Rattle.fault_places.specs.Forms.{form_of, row_at, entry_at, only_operand_at, minus_operand, compared_at}
 use Rattle.fault_places.proofs.Opening.{seen, seen-chain, seen-postfix, operand-leaf}
 use Rattle.fault_places.proofs.forms.operand.Goals as goal
 
@@ -32,7 +32,7 @@ returns-in-Member c =
 pub returns-in-Not : goal.returns-in-Not
 returns-in-Not c =
     c.one_operand.ensures
-    ∙ ap (λ ts. one_at c.in-Not.inner ts c.args.index) c.skip-in-Not.ensures
+    ∙ ap (λ ts. only_operand_at c.in-Not.inner ts c.args.index) c.skip-in-Not.ensures
     ∙ seen c.args.form.now.tree.now (t.Not c.in-Not.inner) (tree.Not c.in-Not.inner) (form_of c.args.form.now) c.args.index c.in-Not.is (t.outs-Not c.in-Not.inner)
 
 pub returns-in-Minus : goal.returns-in-Minus

@@ -1,9 +1,8 @@
-use Rattle.std.proofs.Common.{◌∙◌, subst, refl}
-use Rattle.type_checker.specs.Views.{static_view, fault_view, typing_environment}
+use Rattle.std.proofs.Common.{subst, refl}
+use Rattle.type_checker.specs.Views.{static_view, typing_environment}
 use Rattle.type_checker.specs.type_capabilities.CapabilityList.{capabilities}
 use Rattle.typing.specs.Typing.{Types}
 use Rattle.typing.specs.Faults.{Faults}
-use Rattle.fault_places.proofs.FoundBlame.{told_as}
 use Rattle.fault_places.proofs.judging.judge.Goals as goal
 
 pub returns-in_ok-add_to-in-Ok : goal.returns-in_ok-add_to-in-Ok
@@ -24,10 +23,10 @@ pub returns-in_default : goal.returns-in_default
 returns-in_default c =
     let E = typing_environment c.args.env in (
       record {
-        error = fault_view c.in-Err.fault;
-        has_error = subst (λ gs. Faults E (capabilities gs) c.args.expr.now (fault_view c.in-Err.fault)) c.as_slice.ensures.value
+        error = c.in-Err.fault;
+        has_error = subst (λ gs. Faults E (capabilities gs) c.args.expr.now c.in-Err.fault) c.as_slice.ensures.value
             (c.in-Err.ensures.faulty c.in_default.not-NoMemory);
         unchanged = refl;
       },
-      c.from.ensures ∙ told_as c.in-Err.fault c.in_default.not-NoMemory,
+      refl,
     )

@@ -3,7 +3,8 @@ use Rattle.httparse.specs.Spans.{header_bytes}
 use Rattle.http_streams.specs.Request.{framing}
 use Rattle.http_streams.specs.declared.TheConstants.{MAX_BODY}
 use Rattle.http_streams.proofs.CutLemmas.{admitted, head_fits, framing_is, whole}
-use Rattle.http_streams.proofs.OneRequest.{cut_off_below, size_fits}
+use Rattle.http_streams.specs.RequestLaws.{size_fits}
+use Rattle.http_streams.proofs.OneRequest.{cut_off_below}
 use Rattle.http_streams.proofs.cut.cut_body.Goals as goal
 
 pub overflow_sub-left : goal.overflow_sub-left

@@ -342,7 +342,7 @@ loop-turn-preserved g c =
     let noted = Serves-read (notes g.S.Service.lines g.L.Sink.holds) so_far.7 _ _ _ _ _ came.0 _ so_far.8 (c.deref.ensures.value ∙ came.2) in
     let lines = Serves-then (notes g.S.Service.lines g.L.Sink.holds) so_far.7 done.4 _ _ _ _ _ _ _ _ noted done.5 in
     let at = c.in-Ok-Some.left.at in
-    let left : drop at c.deref.result.now ≡ c.drop_front.new.bytes.items = sym (c.drop_front.ensures ∙ ap (drop at) (sym c.deref.ensures.value)) in
+    let left : drop at c.deref.result.now ≡ c.drop_front.new.bytes.items = sym (c.drop_front.ensures.items ∙ ap (drop at) (sym c.deref.ensures.value)) in
     record {
       heads = search rules;
       some = search rules;

@@ -21,12 +21,12 @@ loop-exchange-preserved g c =
     let old : Exchange = get_or vs i v in
     let w : Exchange = record { request = old.request; reply = reply } in
     let d : Done = record { request = c.deref.result.now; applied = us; reply = reply.items } in
-    let steps = g.R.Replica.steps (g.R.Replica.setting c.args.replica.now) in
+    let steps = g.R.Answering.steps (g.R.Replica.setting c.args.replica.now) in
     let s = g.R.Replica.store c.args.replica.now in
     let m = g.R.Replica.store c.loop-exchange.replica in
     let t = g.R.Replica.store c.answer.new.self in
     let within : i < length vs = omega arith in
-    let step : steps m d.request us d.reply t = subst (λ x. g.R.Replica.steps x m d.request us d.reply t) so_far.setting c.answer.ensures.step.1 in
+    let step : steps m d.request us d.reply t = subst (λ x. g.R.Answering.steps x m d.request us d.reply t) so_far.setting c.answer.ensures.step.1 in
     let last : Chain steps (d ∷ []) m t = (t, step, refl) in
     record {
       setting = c.answer.ensures.setting ∙ so_far.setting;

@@ -9,6 +9,6 @@ invariant-loop-exchange g l = record {
   asked : requests_in l.round ≡ requests_in l.fn.round;
   answered : (done : List Done) × (requests_of done ≡ requests_in (take l.exchange-index l.round))
       × (replies_of done ≡ replies_in (take l.exchange-index l.round))
-      × Chain (g.R.Replica.steps (g.R.Replica.setting l.fn.replica)) done (g.R.Replica.store l.fn.replica) (g.R.Replica.store l.replica)
+      × Chain (g.R.Answering.steps (g.R.Replica.setting l.fn.replica)) done (g.R.Replica.store l.fn.replica) (g.R.Replica.store l.replica)
       × (g.R.Replica.unrecorded l.replica ≡ g.R.Replica.unrecorded l.fn.replica ++ updates_of done);
 }

@@ -23,7 +23,7 @@ returns-clause-served g c =
       events,
       answered.1,
       answered.2,
-      subst (λ (x : Store). Chain (g.R.Replica.steps setting) answered.0 (g.R.Replica.store c.args.replica.now) x) (sym c.commit_and_send.ensures.store) answered.3,
+      subst (λ (x : Store). Chain (g.R.Answering.steps setting) answered.0 (g.R.Replica.store c.args.replica.now) x) (sym c.commit_and_send.ensures.store) answered.3,
       made.1,
       subst (λ (rs : List (List ℕ)). IsRoundOf states (g.R.Replica.unrecorded c.args.replica.now ++ updates_of answered.0) rs events result) (sym answered.2) of_us,
     )

@@ -65,8 +65,8 @@ returns g c =
     let entities = option_map (λ b. b.items) c.in-Ok-read_if_named.found in
     let request = option_map (λ b. b.items) c.in-Ok-read_if_named-2.found in
     let end = exit_status c.report_explanation.result in
-    let files : files_of c.given_of.result ≡ files_named options schema policies entities request =
-    rw (c.lent.ensures, c.deref.ensures.value, c.lent-2.ensures, c.lent-3.ensures) at c.given_of.ensures in
+    let files : files_of c.given_files.result ≡ files_named options schema policies entities request =
+    rw (c.lent.ensures, c.deref.ensures.value, c.lent-2.ensures, c.lent-3.ensures) at c.given_files.ensures in
     let told = subst (λ (f : Files). Runs g.H.Host.does c.read_if_named-3.new.host c.report_explanation.new.host (λ events. AreTextsExplained f events end)) files
     c.report_explanation.ensures in
     named_on g.H.Host.does _ _ _ (option_map (λ s. s.now) options.schema) schema (over_schema options) end c.in-Ok.ensures (

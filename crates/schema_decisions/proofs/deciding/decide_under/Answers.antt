@@ -10,18 +10,18 @@ returns-in_err-schema-clause-stated c =
     rw (p.1, p.2) (λ other. bad_schema (c.in_err-schema.ensures.refused other))
 
 pub returns-clause-decided : goal.returns-clause-decided
-returns-clause-decided c = IfOk-weaker c.decide_in.result _ _
+returns-clause-decided c = IfOk-weaker c.decide_under_setting.result _ _
     (λ line under. record { stated = schema_view c.in_ok-schema.schema; states = c.in_ok-schema.ensures.read; decided = under })
-    c.decide_in.ensures.decided
+    c.decide_under_setting.ensures.decided
 
 pub returns-clause-refused : goal.returns-clause-refused
-returns-clause-refused c = IfErr-weaker c.decide_in.result _ _
+returns-clause-refused c = IfErr-weaker c.decide_under_setting.result _ _
     (λ refusal is_fault other. under_schema (schema_view c.in_ok-schema.schema) c.in_ok-schema.ensures.read (is_fault other))
-    c.decide_in.ensures.refused
+    c.decide_under_setting.ensures.refused
 
 pub returns-clause-stated : goal.returns-clause-stated
 returns-clause-stated c =
     let law = c.decisions_are_as_stated.ensures c.args.schema.now c.args.policies.now c.args.entities.now c.args.request.now in
-    MatchResult-from_both c.decide_in.result _ _
-    (IfOk-weaker c.decide_in.result _ _ (λ line told. (law.lines line.items).0 told) (returns-clause-decided c))
-    (IfErr-weaker c.decide_in.result _ _ (λ refusal told other. (law.refusals refusal).0 (told other)) (returns-clause-refused c))
+    MatchResult-from_both c.decide_under_setting.result _ _
+    (IfOk-weaker c.decide_under_setting.result _ _ (λ line told. (law.lines line.items).0 told) (returns-clause-decided c))
+    (IfErr-weaker c.decide_under_setting.result _ _ (λ refusal told other. (law.refusals refusal).0 (told other)) (returns-clause-refused c))

@@ -1,6 +1,7 @@
 use Rattle.std.proofs.Common.{refl}
 use Rattle.std.specs.Prelude.{codes}
 use Rattle.stamped_store.specs.Store.{updates}
+use Rattle.sync_format.specs.Messages.{delta_text, updates_text}
 use Rattle.sync_format.proofs.ReadBack.{state_back, delta_back}
 use Rattle.sync_format.proofs.Written.{message_again, store_one}
 use Rattle.sync_format.proofs.laws.messages_read_back.Goals as goal
@@ -32,3 +33,10 @@ returns-clause-delta_texts c = delta_back (record {
   sites = c.site_names_are_recognized.ensures.texts;
   texts = c.compact_texts_read_back.ensures.back;
 })
+
+pub returns-clause-lists : goal.returns-clause-lists
+returns-clause-lists c = λ label us h. message_again c.stamps_read_back.ensures.names c.site_names_are_recognized.ensures.tested (codes "delta") label us refl h
+
+pub returns-clause-stores : goal.returns-clause-stores
+unfolding updates_text delta_text
+returns-clause-stores c = λ label s. refl

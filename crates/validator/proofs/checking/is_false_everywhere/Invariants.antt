@@ -1,7 +1,7 @@
 use Rattle.std.proofs.Common.{Bool, true, Result, drop}
 use Rattle.type_checker.specs.schema.Views.{schema_view}
 use Rattle.type_checker.specs.policy_grammar.PolicyExpression.{expression_of}
-use Rattle.validator.specs.declared.fault.TypeFault.{TypeFault}
+use Rattle.type_checker.specs.typing.declared.fault.TypeFault.{TypeFault}
 use Rattle.validator.specs.inner.Checking.{typing_environments, AreJudged}
 use Rattle.validator.proofs.checking.is_false_everywhere.Given as goal
 

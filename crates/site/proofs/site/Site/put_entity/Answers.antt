@@ -6,7 +6,7 @@ use Rattle.values.specs.declared.entity_uid.EntityUid.{EntityUid}
 use Rattle.site_store.specs.stamped_store.Store.{entity_name, issued, KeepsOtherNames}
 use Rattle.std.specs.FinMap.{get}
 use Rattle.site.specs.SiteViews.{SiteView, schema_of, store_in}
-use Rattle.site.specs.inner.Recording.{IsStatedBy}
+use Rattle.site.specs.Admitted.{IsStatedBy}
 use Rattle.site.proofs.Recording.{puts_entity, put_or_not, entity_stands}
 use Rattle.site.proofs.site.Site.put_entity.Goals as goal
 

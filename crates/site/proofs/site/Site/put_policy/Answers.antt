@@ -22,7 +22,7 @@ returns-in-Ok-clause-puts c =
     (subst (λ (x : SchemaEntries). IsCheckedPolicy (schema_view x) c.args.id.now c.args.text.now j.body j.impossible) c.schema.ensures c.in-Ok.ensures.judged) in
     let records : RecordsOr s.name (store_in s) (policy_name c.args.id.now) (Some j.body.text) r t =
     subst (λ (id : List ℕ). RecordsOr s.name (store_in s) (policy_name id) (Some j.body.text) r t) c.in-Ok.ensures.named c.record_policy-stamped.ensures.records in
-    subst (λ (q : Result Put SiteFault). PutsPolicy (schema_of s) s.name (store_in s) c.args.id.now c.args.text.now q t) (sym c.put_of.ensures)
+    subst (λ (q : Result Put SiteFault). PutsPolicy (schema_of s) s.name (store_in s) c.args.id.now c.args.text.now q t) (sym c.put_from_stamp.ensures)
     (puts_policy (schema_of s) s.name (store_in s) c.args.id.now c.args.text.now j.body j.impossible r t is records)
 
 pub returns-in-Ok-clause-stands : goal.returns-in-Ok-clause-stands
@@ -33,6 +33,6 @@ returns-in-Ok-clause-stands c =
     let r = c.record_policy-stamped.result in
     let records : RecordsOr s.name (store_in s) (policy_name c.args.id.now) (Some j.body.text) r t =
     subst (λ (id : List ℕ). RecordsOr s.name (store_in s) (policy_name id) (Some j.body.text) r t) c.in-Ok.ensures.named c.record_policy-stamped.ensures.records in
-    subst (λ (q : Result Put SiteFault). IfOk q (λ put. get t (policy_name c.args.id.now) ≡ Some (issued put.stamp (Some c.args.text.now)))) (sym c.put_of.ensures)
+    subst (λ (q : Result Put SiteFault). IfOk q (λ put. get t (policy_name c.args.id.now) ≡ Some (issued put.stamp (Some c.args.text.now)))) (sym c.put_from_stamp.ensures)
     (put_stands t (policy_name c.args.id.now) j.body.text c.args.text.now j.impossible r c.in-Ok.ensures.judged.same
     (stands c.stamps_are_issued.ensures.stays s.name (store_in s) (policy_name c.args.id.now) (Some j.body.text) r t records))

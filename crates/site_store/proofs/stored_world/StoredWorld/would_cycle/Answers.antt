@@ -10,13 +10,13 @@ pub returns-in-Some : goal.returns-in-Some
 returns-in-Some c =
     let edges = (world_stored c.args.self.now).parents in
     let uid = c.args.entity.now.uid in
-    subst (λ (ps : List EntityUid). IsTrue c.would_cycle.result ↔ IsOnCycle (with_parents edges uid ps) uid) c.as_slice-parents.ensures
+    subst (λ (ps : List EntityUid). IsTrue c.would_cycle.result ↔ IsOnCycle (with_parents edges uid ps) uid) c.members-parents.ensures.members
     (c.would_cycle.ensures edges (ancestors_kept c.self.invariant c.args.self.now c.self.view_is c.in-Some.kept c.in-Some.is))
 
 pub returns-in-None : goal.returns-in-None
 returns-in-None c =
     let edges = (world_stored c.args.self.now).parents in
     let uid = c.args.entity.now.uid in
-    subst (λ (ps : List EntityUid). IfOk c.would_cycle-in-None.result (λ yes. IsTrue yes ↔ IsOnCycle (with_parents edges uid ps) uid)) c.as_slice-parents.ensures
-    (subst (λ (p : Parents). IfOk c.would_cycle-in-None.result (λ yes. IsTrue yes ↔ IsOnCycle (with_parents p uid c.as_slice-parents.result.now) uid))
+    subst (λ (ps : List EntityUid). IfOk c.would_cycle-in-None.result (λ yes. IsTrue yes ↔ IsOnCycle (with_parents edges uid ps) uid)) c.members-parents.ensures.members
+    (subst (λ (p : Parents). IfOk c.would_cycle-in-None.result (λ yes. IsTrue yes ↔ IsOnCycle (with_parents p uid c.members-parents.result.now) uid))
     (edges_searched c.self.invariant c.args.self.now c.self.view_is) c.would_cycle-in-None.ensures)

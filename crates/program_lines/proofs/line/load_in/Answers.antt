@@ -1,6 +1,0 @@
-use Rattle.clap.specs.Words.{found_of, rows_of}
-use Rattle.program_lines.proofs.LineLemmas.{load_lacks_site}
-use Rattle.program_lines.proofs.line.load_in.Goals as goal
-
-pub returns-in_default-site_in : goal.returns-in_default-site_in
-returns-in_default-site_in c = load_lacks_site (rows_of (found_of c.args.options.now)) c.in_default-site_in.ensures

@@ -1,0 +1,15 @@
+use Rattle.std.proofs.Common.{length, refl}
+use Rattle.std.proofs.lemmas.Option.{slice_get_read, slice_get_past}
+use Rattle.type_checker.proofs.FieldPlaces.{built_some, built_none}
+use Rattle.type_checker.proofs.parts.built_field_at.Goals as goal
+
+pub returns-in-Some : goal.returns-in-Some
+returns-in-Some c =
+    let fs = c.args.fields.now in
+    let found = c.in-Some.ensures.lookup in
+    built_some fs c.args.at c.in-Some.field.now
+    (slice_get_read fs (length fs) c.args.at c.in-Some.field.now refl found.3.0 found.1)
+
+pub returns-in-None : goal.returns-in-None
+returns-in-None c =
+    built_none c.args.fields.now c.args.at (slice_get_past c.args.fields.now c.args.at c.in-None.ensures.lookup.3)
