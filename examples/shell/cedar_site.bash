@@ -9,14 +9,14 @@ _cedar_site() {
         check) options="--schema --explain --help" ;;
         decide) options="--schema --policies --entities --request --explain --help" ;;
         load) options="--schema --site --policies --entities --state --explain --help" ;;
-        serve) options="--schema --site --listen --state --connections --idle --log --explain --help" ;;
+        serve) options="--schema --site --listen --state --connections --clients --idle --log --explain --help" ;;
         pull) options="--schema --site --from --state --help" ;;
         exchange) options="--schema --between --and --help" ;;
         merge) options="--schema --explain --help" ;;
         drill) options="--schema --sites --help" ;;
         explain) options="--schema --entities --request --help" ;;
     esac
-    case $before in --and|--between|--connections|--from|--idle|--listen|--site|--sites) return ;; esac
+    case $before in --and|--between|--clients|--connections|--from|--idle|--listen|--site|--sites) return ;; esac
     case $word in
         -*) COMPREPLY=($(compgen -W "$options" -- "$word")) ;;
         *) COMPREPLY=($(compgen -f -- "$word")) ;;

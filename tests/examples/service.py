@@ -3,8 +3,8 @@
 
     [PROGRAM=FILE] tests/examples/service.py
 
-It tries every route, a kept connection, requests sent together, the log, clients that send garbage, cut off, stall or are
-idle, two sites that exchange until they are equal, `pull` and `merge`, and errors that end a command. PROGRAM names another
+It tries every route, a kept connection, requests sent together, the log, clients that send garbage, cut off, stall, are
+idle or wait for a slot, two sites that exchange until they are equal, `pull` and `merge`, and errors that end a command. PROGRAM names another
 binary than the built one. Standard library alone.
 """
 import argparse
@@ -254,45 +254,59 @@ def clients_that_cut_off(port):
 
 
 def a_client_that_stalls(port):
-    """A stalled client holds up the next one."""
+    """A stalled client holds up nobody, and is answered once its request is whole."""
     stalled = opened(port)
     stalled.sendall(ASK[:10])
-    with opened(port) as waiting:
-        waiting.sendall(ASK)
-        waiting.settimeout(0.5)
-        try:
-            same("who waits", b"", waiting.recv(1))
-        except TimeoutError:
-            pass
-        stalled.close()
-        waiting.settimeout(120)
-        waiting.shutdown(socket.SHUT_WR)
-        same("who waited", REPLY, to_end(waiting))
+    for _ in range(3):
+        asks_rightly(port, "a client that stalls")
+    stalled.sendall(ASK[10:])
+    stalled.shutdown(socket.SHUT_WR)
+    same("who stalled", REPLY, to_end(stalled))
+    stalled.close()
 
 
 def idle_clients():
-    """With --idle 1 three clients that send nothing and one that sends half a request hold up a later one for a second each,
-    and one that receives no reply for a second more."""
+    """With --idle 1 four clients that send nothing, or half a request, and one that reads its replies late hold up nobody,
+    and each connection ends after about a second."""
     site, port = begin("idle", "--idle", "1")
+    began = time.monotonic()
     silent = [opened(port) for _ in range(4)]
     silent[3].sendall(ASK[:10])
-    greedy = opened(port)
-    greedy.setblocking(False)
-    try:
-        while True:
-            greedy.send(1000 * ASK)
-    except BlockingIOError:
-        pass
-    began = time.monotonic()
-    same("a client after idle ones", LINE.decode(), asked(port, "GET", "/v1/policies/absent")[1])
-    took = time.monotonic() - began
-    same("how long it waited for them", True, 3 < took < 12)
+    late = opened(port)
+    late.sendall(200 * ASK)
+    asks_rightly(port, "idle clients")
     for link in silent:
-        link.settimeout(120)
         same("a client that was idle", b"", link.recv(1))
         link.close()
-    greedy.close()
+    same("how long they were idle", True, 1 < time.monotonic() - began < 30)
+    same("a client that reads its replies late", 200 * REPLY, to_end(late))
+    late.close()
+    asks_rightly(port, "clients that were idle")
     same("the site after idle clients still runs", None, site.poll())
+
+
+def clients_that_wait():
+    """With one slot and no limit of time a client waits until the one before it ends. With two slots a third client waits
+    until one of the others is idle for a second."""
+    _, port = begin("one", "--clients", "1", "--idle", "0")
+    stalled, waiting = opened(port), opened(port)
+    waiting.sendall(ASK)
+    waiting.settimeout(1.5)
+    try:
+        same("who waits for the one slot", None, waiting.recv(1))
+    except TimeoutError:
+        pass
+    stalled.close()
+    waiting.settimeout(120)
+    waiting.shutdown(socket.SHUT_WR)
+    same("who waited for the one slot", REPLY, to_end(waiting))
+    _, port = begin("two", "--clients", "2")
+    idle = [opened(port) for _ in range(2)]
+    asks_rightly(port, "one of two idle clients made room")
+    same("who was idle longest", b"", idle[0].recv(1))
+    idle[1].sendall(ASK)
+    idle[1].shutdown(socket.SHUT_WR)
+    same("who was idle for less long", REPLY, to_end(idle[1]))
 
 
 def line_of(method, target, status, **more):
@@ -462,9 +476,14 @@ def refusals(one, file):
     ends("a site of 32 bytes", 0, "", "serve", *schema, "--site", 32 * "n", "--connections", "0", *nowhere)
     ends("too many connections", 2, "", "serve", *schema, "--site", "north", *nowhere, "--connections", "4294967296")
     ends("no address", 2, "", "serve", *schema, "--site", "north")
-    for idle in ("0", "86401", "1.5", "", "-1"):
+    for idle in ("86401", "1.5", "", "-1"):
         ends(f"idle for {idle}", 2, "", *serve, *nowhere, f"--idle={idle}")
-    ends("idle for a day", 0, "", *serve, *nowhere, "--idle", "86400")
+    for idle in ("0", "86400"):
+        ends(f"idle for {idle} seconds", 0, "", *serve, *nowhere, "--idle", idle)
+    for clients in ("0", "1025", "1.5", "", "-1"):
+        ends(f"{clients} clients", 2, "", *serve, *nowhere, f"--clients={clients}")
+    for clients in ("1", "1024"):
+        ends(f"{clients} clients at once", 0, "", *serve, *nowhere, "--clients", clients)
     ends("no file", 3, f"fault: {none}", *serve, *nowhere, "--state", none)
     ends("a state of another schema", 1, refusal(52), *serve, "--listen", "nowhere", "--state", other)
     ends("no schema", 1, refusal(20), "serve", "--schema", "policies.cedar", "--site", "east", "--listen", "nowhere")
@@ -491,6 +510,7 @@ def main():
     two_sites(one, two)
     refusals(one, pulls_and_merges(one, two))
     idle_clients()
+    clients_that_wait()
     logs()
     cut_lines()
     print(f"service: {len(wrong)} checks failed" if wrong else "service: all checks passed")

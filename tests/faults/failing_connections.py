@@ -13,23 +13,31 @@ bytes):
 - If a write fails, the output is what the device took before: whole replies and a first part of one more, whose request
   is the last one executed. All requests that came before the last read have been answered.
 - After a failure nothing is read or written. Both sites then have the same state, over a new connection.
+- Without a failure the client gets all that was written, and no reset: what it still sends is read and discarded. Such
+  reads are not counted. Nor is a call that would block.
 
-After each kind of failures the site has as many open files as after its first connection. The same holds for streams
+After each kind of failures the site has as many open files as before its first connection. The same holds for streams
 that are cut off, rejected or ended by a request, with a stated number of reads of 7 bytes. For some failures the output
-is stated, for some streams the number of unread bytes. The reads and writes of `pull` fail in turn, too: it reports
-each failure, and writes no state.
+is stated, for some streams the number of unread bytes. A read or write that a signal interrupts is made again. The
+reads and writes of `pull` fail in turn, too: it reports each failure, and writes no state.
 
 Some connections fail before they are established, several in a row. They do not count as served, only the first of a
-row is warned of, and the next client is served. A site that cannot open a file while a client waits neither spins nor
-ends, and serves that client later.
+row is warned of, and the next client is served. If the client aborted the connection, or a signal interrupted the call,
+there is no warning. A site that cannot open a file while a client waits neither spins nor ends, and serves that client
+later.
+
+If a signal interrupts its waits, the site goes on. If a wait fails, it ends with status 3 and reports its address; what
+was answered before has been sent.
 
 tests/faults/fail.c, loaded before the C library, makes a call fail. Needs `cc`. The last line is `N passed, M failed`, of the
 kinds of failures and the stated ones.
 """
 import collections
+import errno
 import mmap
 import os
 import resource
+import signal
 import socket
 import struct
 import subprocess
@@ -122,20 +130,25 @@ UNREAD = (
 )
 LABEL = b"44136fa355b3678a1146ad16f7e8649e94fb4fc21fe77e8310c060f61caaff8a"
 NO_NEWS = b'{"entries":[],"kind":"delta","schema":"%s","version":2}' % LABEL
-# how many connections fail in a row before each one that a site serves
-UNACCEPTED = ((1,), (4,), (2, 0, 1))
+# how many connections fail in a row before each one that a site serves, and by which error; 0 is the usual one, EMFILE
+UNACCEPTED = (((1,), 0), ((4,), 0), ((2, 0, 1), 0), ((3,), errno.ECONNABORTED), ((3,), errno.EINTR))
+# those that are no failures of the site
+NO_FAILURES = (errno.ECONNABORTED, errno.EINTR)
 WARNING = "warning: accept failed, trying again: "
-# room for standard input, output and error, and the listening socket
-NO_FILE_MORE = ("sh", "-c", 'ulimit -S -n 4 && exec "$@"', "sh")
+# the errors of a wait that end a site
+ENDING_WAITS = (errno.EBADF, errno.ENOMEM)
 # a stream with more calls than this is reported as a fault
 MOST = 10_000
+# in seconds: how long a closed connection may stay open, to discard what its client still sends
+LINGERS = 3
 
-# the memory that tests/faults/fail.c shares: the first five fields are the plan, the others its report
+# the memory that tests/faults/fail.c shares: the first ten fields are the plan, the others its report
 Plan = collections.namedtuple(
     "Plan",
-    "failing_read failing_write most_read most_written failing_accepts"
+    "failing_read failing_write most_read most_written failing_accepts failing_waits"
+    " read_error write_error accept_error wait_error"
     " reads writes given given_last taken failed later",
-    defaults=[0] * 12,
+    defaults=[0] * 17,
 )
 PLAIN = Plan()
 
@@ -170,6 +183,30 @@ class Shared:
         return self.memory[self.FORM.size : self.FORM.size + self.told().taken]
 
 
+def answered(port, stream):
+    """Returns the reply to a stream, and whether the connection was reset."""
+    with connected(port) as link:
+        came, is_reset = b"", False
+        try:
+            link.sendall(stream)
+            link.shutdown(socket.SHUT_WR)
+        except TimeoutError:
+            raise
+        except OSError:
+            is_reset = True
+        try:
+            while part := link.recv(65536):
+                came += part
+        except ConnectionResetError:
+            is_reset = True
+        return came, is_reset
+
+
+def open_files(process):
+    """Returns the numbers of the open files of a process."""
+    return {int(it) for it in os.listdir(f"/proc/{process.pid}/fd")}
+
+
 def whole(requests, size):
     """Returns how many of the requests are complete in this many bytes of their stream."""
     count = end = 0
@@ -200,7 +237,7 @@ class Twins:
         self.shared.ask(PLAIN)
         self.site = Site(self.failing, self.program, self.schema, "1")
         self.twin = Site(self.plain, self.program, self.schema, "1")
-        self.files = self.files_now()
+        self.files = len(open_files(self.site.process))
 
     def begin_anew(self):
         """Restarts both, so that a fault does not affect other kinds."""
@@ -214,9 +251,12 @@ class Twins:
             processes.close()
 
     def files_now(self):
-        """Returns the number of open files of the first site, once a connection has ended."""
+        """Returns the number of open files of the first site, once its connections have ended."""
         sent(self.site.port, STATE)
-        return len(os.listdir(f"/proc/{self.site.process.pid}/fd"))
+        until = time.monotonic() + LINGERS
+        while (count := len(open_files(self.site.process))) > self.files and time.monotonic() < until:
+            time.sleep(0.01)
+        return count
 
     def wanted(self, requests, told):
         """Returns the expected output, by what the device gave and took, once the twin has executed what the site has."""
@@ -239,15 +279,15 @@ class Twins:
         The rest of the stream gets no reply. The report of the device and the output are kept.
         """
         self.shared.ask(plan)
-        came = sent(self.site.port, b"".join(requests) + rest)
+        came, is_reset = answered(self.site.port, b"".join(requests) + rest)
         told, out = self.told, self.out = self.shared.told(), self.shared.out()
         self.shared.ask(PLAIN)
         wanted = self.wanted(requests, told)
         if out != wanted:
             raise Fault(f"expected output {wanted!r}, got {out!r}")
-        # if bytes are left unread, the connection is reset, and bytes on their way may be lost
-        if not out.startswith(came) or not (told.failed or rest or came == out):
-            raise Fault(f"expected the client to get {out!r}, got {came!r}")
+        # if a call fails and bytes are left unread, the connection is reset, and bytes on their way may be lost
+        if not out.startswith(came) or not (told.failed or (came, is_reset) == (out, False)):
+            raise Fault(f"expected the client to get {out!r}, got {came!r}{' and a reset' if is_reset else ''}")
         if told.later:
             raise Fault(f"expected no calls after the failed one, got {told.later}")
         if self.site.process.poll() is not None:
@@ -315,14 +355,31 @@ def short(twins, requests, rest, reads):
 
 
 def unread(twins, stream, plan, left):
-    """Checks how much of a stream is left unread. Raises `Fault`."""
+    """Checks how much of a stream is left unread, and that all that was written arrives if no call fails. Raises `Fault`."""
     twins.shared.ask(PLAIN._replace(**SEVENS)._replace(**plan))
-    sent(twins.site.port, stream)
-    told = twins.shared.told()
+    came = answered(twins.site.port, stream)
+    told, out = twins.shared.told(), twins.shared.out()
     twins.shared.ask(PLAIN)
     if len(stream) - told.given != left:
         raise Fault(f"expected {left} unread bytes, got {len(stream) - told.given}")
+    if not told.failed and came != (out, False):
+        raise Fault(f"expected the client to get {out!r}, got {came[0]!r}{' and a reset' if came[1] else ''}")
     return f"{left} bytes unread"
+
+
+def interrupted(twins, requests, call, error):
+    """Has a signal interrupt each of these calls in turn, which changes nothing. Raises `Fault`."""
+    for number in range(1, MOST):
+        twins.shared.ask(PLAIN._replace(**{call: number, error: errno.EINTR}, **SEVENS))
+        came = answered(twins.site.port, b"".join(requests))
+        told = twins.shared.told()
+        twins.shared.ask(PLAIN)
+        wanted = b"".join(sent(twins.twin.port, one) for one in requests)
+        if came != (wanted, False):
+            raise Fault(f"number {number}: expected {wanted!r}, got {came[0]!r}{' and a reset' if came[1] else ''}")
+        if not told.failed:
+            return number - 1
+    raise Fault(f"expected at most {MOST} calls, got more")
 
 
 def pulled(twins, call):
@@ -350,10 +407,10 @@ def pulled(twins, call):
     raise Fault(f"expected at most {MOST} calls, got more")
 
 
-def unaccepted(twins, rows):
+def unaccepted(twins, rows, error):
     """Makes so many connections fail in a row before each one that a site serves.
     Raises `Fault`."""
-    twins.others_shared.ask(PLAIN._replace(failing_accepts=rows[0]))
+    twins.others_shared.ask(PLAIN._replace(failing_accepts=rows[0], accept_error=error))
     process, port = listening(twins.others, twins.program, twins.schema, "1", "--connections", str(len(rows)))
     came = []
     try:
@@ -361,16 +418,68 @@ def unaccepted(twins, rows):
             with connected(port) as link, link.makefile("rb") as incoming:
                 link.sendall(NO_POLICY)
                 came.append(incoming.read(len(NO_POLICY_REPLY)))
-                # the site is at this connection, so those that fail are before the next one
-                twins.others_shared.ask(PLAIN._replace(failing_accepts=more))
+                # no other client waits, so those that fail are before the next one
+                twins.others_shared.ask(PLAIN._replace(failing_accepts=more, accept_error=error))
         process.wait(PATIENCE)
     except (OSError, subprocess.TimeoutExpired) as fault:
         came.append(fault)
     end = twins.others.end(process)
-    warned = "\n".join(f"{WARNING}{HOST}:{port}" for row in rows if row)
+    warned = "\n".join(f"{WARNING}{HOST}:{port}" for row in rows if row and error not in NO_FAILURES)
     if (came, end) != ([NO_POLICY_REPLY] * len(rows), (0, warned)):
         raise Fault(f"expected {len(rows)} replies and the end {(0, warned)}, got {came} and {end}")
     return f"{len(rows)} served"
+
+
+def interrupted_waits(twins):
+    """Has signals interrupt the waits of a site, before a client comes and while one is idle. Raises `Fault`."""
+    plan = PLAIN._replace(failing_waits=5)
+    twins.others_shared.ask(plan)
+    process, port = listening(twins.others, twins.program, twins.schema, "1", "--connections", "1")
+    came = []
+    with connected(port) as link, link.makefile("rb") as incoming:
+        for _ in range(3):
+            link.sendall(NO_POLICY)
+            came.append(incoming.read(len(NO_POLICY_REPLY)))
+            twins.others_shared.ask(plan)
+            # a stopped wait goes on as an interrupted one
+            process.send_signal(signal.SIGSTOP)
+            process.send_signal(signal.SIGCONT)
+            until = time.monotonic() + PATIENCE
+            while twins.others_shared.told().failing_waits:
+                if time.monotonic() > until:
+                    raise Fault(f"expected further waits, got {twins.others_shared.told()}")
+                time.sleep(0.01)
+    process.wait(PATIENCE)
+    end = twins.others.end(process)
+    if (came, end) != ([NO_POLICY_REPLY] * 3, (0, "")):
+        raise Fault(f"expected three replies and the end {(0, '')}, got {came} and {end}")
+    return "served"
+
+
+def failed_wait(twins, error):
+    """Makes a wait of a site fail, before its first client and behind a reply. Raises `Fault`."""
+    for is_first in (True, False):
+        plan = PLAIN._replace(failing_waits=1, wait_error=error)
+        twins.others_shared.ask(plan if is_first else PLAIN)
+        process, port = listening(twins.others, twins.program, twins.schema, "1")
+        came = NO_POLICY_REPLY
+        if not is_first:
+            with connected(port) as link:
+                link.sendall(NO_POLICY)
+                came = link.recv(len(NO_POLICY_REPLY), socket.MSG_WAITALL)
+                # it waits by now, for what follows
+                time.sleep(0.3)
+                twins.others_shared.ask(plan)
+                link.sendall(NO_POLICY)
+                came = came and to_end(link)
+        try:
+            process.wait(LINGERS)
+        except subprocess.TimeoutExpired:
+            pass  # its status says so
+        end = twins.others.end(process)
+        if (came, end) != (NO_POLICY_REPLY, (3, f"fault: {HOST}:{port}")):
+            raise Fault(f"expected a reply and the end {(3, f'fault: {HOST}:{port}')}, got {came!r} and {end}")
+    return "ended"
 
 
 def processor_time(process):
@@ -382,15 +491,18 @@ def processor_time(process):
 
 def without_files(twins):
     """Starts a site that cannot open a file, and lets a client wait; then it can again. Raises `Fault`."""
-    process, port = listening(twins.plain, twins.program, twins.schema, "1", before=NO_FILE_MORE)
+    process, port = listening(twins.plain, twins.program, twins.schema, "1")
+    limits = resource.prlimit(process.pid, resource.RLIMIT_NOFILE)
+    taken = open_files(process)
+    no_more = min(set(range(len(taken) + 1)) - taken)
+    resource.prlimit(process.pid, resource.RLIMIT_NOFILE, (no_more, limits[1]))
     try:
         with connected(port) as link:
             link.sendall(NO_POLICY)
             began = processor_time(process)
             time.sleep(2)
             taken = processor_time(process) - began
-            most = resource.getrlimit(resource.RLIMIT_NOFILE)[1]
-            resource.prlimit(process.pid, resource.RLIMIT_NOFILE, (most, most))
+            resource.prlimit(process.pid, resource.RLIMIT_NOFILE, limits)
             link.shutdown(socket.SHUT_WR)
             came = to_end(link)
     except OSError as fault:
@@ -415,9 +527,16 @@ def all_kinds():
         yield name, lambda twins, call=call: pulled(twins, call)
     for name, kind in STATED.items():
         yield name, lambda twins, kind=kind: stated(twins, *kind)
-    for kind in UNACCEPTED:
-        name = f"{', '.join(map(str, kind))} that fail before they are established, before each connection of {len(kind)}"
-        yield name, lambda twins, kind=kind: unaccepted(twins, kind)
+    for call, error in (("failing_read", "read_error"), ("failing_write", "write_error")):
+        name = f"{call.removeprefix('failing_')}s that a signal interrupts, 7 and 50 bytes a call"
+        yield name, lambda twins, it=(call, error): interrupted(twins, STREAMS["a put and a deletion"], *it)
+    for rows, error in UNACCEPTED:
+        name = f"{', '.join(map(str, rows))} that fail before they are established, before each connection of {len(rows)}"
+        name += f", by {errno.errorcode[error]}" if error else ""
+        yield name, lambda twins, it=(rows, error): unaccepted(twins, *it)
+    yield "waits that a signal interrupts", interrupted_waits
+    for error in ENDING_WAITS:
+        yield f"a wait that fails by {errno.errorcode[error]}", lambda twins, error=error: failed_wait(twins, error)
     yield "two seconds without a file to open, and a client that waits", without_files
 
 
@@ -427,8 +546,8 @@ def rows(program, folder):
         for name, tries in all_kinds():
             try:
                 came, is_right = tries(twins), True
-            except Fault as fault:
-                came, is_right = f"FAILED: {fault}", False
+            except (Fault, OSError, subprocess.TimeoutExpired) as fault:
+                came, is_right = f"FAILED: {fault or type(fault).__name__}", False
                 twins.begin_anew()
             yield name, came, is_right
     finally:

@@ -177,11 +177,11 @@ def connected(port):
 
 
 class Site:
-    """A served site that started with an empty store, and a kept connection."""
+    """A served site that started with an empty store, and a kept connection, which may be idle for ever."""
 
     def __init__(self, processes, program, schema, name):
         self.processes = processes
-        self.process, self.port = listening(processes, program, schema, name)
+        self.process, self.port = listening(processes, program, schema, name, "--idle", "0")
         self.link = self.incoming = None
 
     def asked(self, requests):
@@ -637,7 +637,7 @@ class Sites(Served):
     """
 
     BETWEEN = " ¶ "
-    OTHERS = ("context", "cuts", "logs", "network", "prefixes", "reads", "says", "serve", "standing", "tried", "world", "writes")
+    OTHERS = ("context", "cuts", "logs", "network", "prefixes", "reads", "says", "serve", "standing", "together", "tried", "world", "writes")
 
     @staticmethod
     def rows_of(table):

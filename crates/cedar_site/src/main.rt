@@ -27,6 +27,7 @@ fn main(rt: HostRuntime) -> ExitCode {
         answers: rt.stdout(),
         faults: rt.stderr(),
         lines: Some(rt.stdout()),
+        warnings: Some(rt.stderr()),
     };
     match words(&rt) {
         Ok(words) => run(rt.alloc(), &mut host, words.as_slice()),

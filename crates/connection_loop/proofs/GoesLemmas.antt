@@ -1,5 +1,5 @@
 -- Phases with the service and the log.
-use Rattle.std.proofs.Common.{◌≡◌, ◌+◌, ℕ, List, [], ◌∷◌, ◌++◌, add-one, refl, sym, ap, ◌∙◌, subst, length}
+use Rattle.std.proofs.Common.{◌≡◌, ◌+◌, ℕ, Bool, true, List, [], ◌∷◌, ◌++◌, add-one, refl, sym, ap, ◌∙◌, subst, length}
 use Rattle.connections.specs.Connections.{At, AreChanges, Change, Committed, Connection, Entry, Uncommitted}
 use Rattle.connections.specs.Connections.{Opened, Reserved, Came, Ended, Asked, Lacked, Answered, Logged, CutOff, Took, Gone}
 use Rattle.connections.specs.Ready.{TablesAreReady}
@@ -11,13 +11,14 @@ use Rattle.connections.proofs.JoinLemmas.{leads_join}
 use Rattle.connection_loop.specs.Acts.{Act, AreDone}
 use Rattle.connection_loop.specs.Happenings.{Happening, Did, Rounded, AreInner, IsInner, after, after_all, calls_of, entries_of}
 use Rattle.connection_loop.specs.Phases.{AtEach, Goes, IsOuter, Moves, Phase, State, Then}
-use Rattle.connection_loop.specs.Turns.{IsAnswering, dids}
+use Rattle.connection_loop.specs.Turns.{IsAnswering, IsAnsweredThen, IsIncoming, IsWaiting, dids, is_lost}
 use Rattle.connection_loop.specs.declared.course.Course.{Course}
+use Rattle.connection_loop.specs.declared.limits.Limits.{Limits}
 use Rattle.connection_loop.proofs.LoopLemmas.{after_join, calls_join, done_join, entries_join, inner_join}
 
 no_turn : (change : Change) → IsOuter change → IsATurn change → ⊥
 no_turn (Opened now) h n = n
-no_turn Reserved h n = n
+no_turn (Reserved now) h n = n
 no_turn (Came bytes now) h n = n
 no_turn Ended h n = n
 no_turn (Asked now) h n = n
@@ -39,7 +40,7 @@ outer_ready is_unfinished law (Uncommitted ∷ entries) old new all changes read
 
 unlogged : (at : ℕ) (change : Change) → IsOuter change → IsLoggedAt at change [] []
 unlogged at (Opened now) h = refl
-unlogged at Reserved h = refl
+unlogged at (Reserved now) h = refl
 unlogged at (Came bytes now) h = refl
 unlogged at Ended h = refl
 unlogged at (Asked now) h = refl
@@ -60,7 +61,7 @@ module _ {S L : Type 0} (answers : Answering S) (lines : LineRelation) (commits 
     (writes cuts : L → List ℕ → L → Type 0) where
   still : (s : S) (change : Change) → IsOuter change → StepsAt answers lines commits commit_fails s change s
   still s (Opened now) h = refl
-  still s Reserved h = refl
+  still s (Reserved now) h = refl
   still s (Came bytes now) h = refl
   still s Ended h = refl
   still s (Asked now) h = refl
@@ -73,7 +74,7 @@ module _ {S L : Type 0} (answers : Answering S) (lines : LineRelation) (commits 
 
   quiet : (l : L) (change : Change) → IsOuter change → NotesAt writes cuts l change l
   quiet l (Opened now) h = refl
-  quiet l Reserved h = refl
+  quiet l (Reserved now) h = refl
   quiet l (Came bytes now) h = refl
   quiet l Ended h = refl
   quiet l (Asked now) h = refl
@@ -154,6 +155,15 @@ module _ {S L N : Type 0} (steps : S → Entry → S → Type 0) (notes : L → 
   goes_more P n old mid new h g =
       subst (λ (k : ℕ). Goes steps notes does (AtEach P k) old new) (sym (add-one n)) (goes_then (AtEach P n) (P n) old mid new h g)
 
+  pub goes_answered : (limits : Limits) (is_unfinished : List ℕ → Type 0) (lost : Bool) (P : Phase) (one two three four five : State S L N)
+      → Goes steps notes does (IsWaiting limits true) one two → Goes steps notes does (IsIncoming limits) two three
+      → Goes steps notes does (IsAnswering is_unfinished lost) three four → Goes steps notes does P four five
+      → Goes steps notes does (IsAnsweredThen limits is_unfinished lost P) one five
+  goes_answered limits is_unfinished lost P one two three four five waits comes answers last =
+      goes_then (IsWaiting limits true) (Then (IsIncoming limits) (Then (IsAnswering is_unfinished lost) P)) one two five waits
+      (goes_then (IsIncoming limits) (Then (IsAnswering is_unfinished lost) P) two three five comes
+      (goes_then (IsAnswering is_unfinished lost) P three four five answers last))
+
 -- the happenings of a round
 pub dids_entries : (c : Course) (entries : List Entry) (outcome : Outcome) (next : ℕ)
     → entries_of c (dids entries ++ Rounded outcome next ∷ []) ≡ entries
@@ -171,7 +181,7 @@ dids_remember c (e ∷ entries) outcome next = dids_remember c entries outcome n
 
 turn_inner : (change : Change) → IsATurn change → IsInner change
 turn_inner (Opened now) h = absurd h
-turn_inner Reserved h = absurd h
+turn_inner (Reserved now) h = absurd h
 turn_inner (Came bytes now) h = absurd h
 turn_inner Ended h = absurd h
 turn_inner (Asked now) h = absurd h
@@ -184,7 +194,7 @@ turn_inner (Gone why) h = absurd h
 
 line_inner : (change : Change) → IsALine change → IsInner change
 line_inner (Opened now) h = absurd h
-line_inner Reserved h = absurd h
+line_inner (Reserved now) h = absurd h
 line_inner (Came bytes now) h = absurd h
 line_inner Ended h = absurd h
 line_inner (Asked now) h = absurd h
@@ -210,7 +220,7 @@ lack_turns : (entries : List Entry) → IsOrdered did.Quiet entries → AreAll I
 lack_turns [] h = tt
 lack_turns (At at (Lacked needed) ∷ entries) h = (tt, lack_turns entries h.1)
 lack_turns (At at (Opened now) ∷ entries) h = absurd h.0
-lack_turns (At at Reserved ∷ entries) h = absurd h.0
+lack_turns (At at (Reserved now) ∷ entries) h = absurd h.0
 lack_turns (At at (Came bytes now) ∷ entries) h = absurd h.0
 lack_turns (At at Ended ∷ entries) h = absurd h.0
 lack_turns (At at (Asked now) ∷ entries) h = absurd h.0
@@ -241,15 +251,15 @@ module _ {S L N : Type 0} (steps : S → Entry → S → Type 0) (notes : L → 
   pub goes_round : (is_unfinished : List ℕ → Type 0) (outcome : Outcome) (end next : ℕ) (entries : List Entry)
       (old new : Course) (table table2 : List Connection) (s t : S) (l m : L) (sockets : N)
       → Leads steps notes entries table s l table2 t m → IsOrdered outcome entries → IsRound is_unfinished old.from end table entries
-      → next ≡ next_slot end (length table) → new ≡ after old (Rounded outcome next)
-      → Goes steps notes does (IsAnswering is_unfinished)
+      → next ≡ next_slot end (length table) → new ≡ after old (Rounded outcome next) → (lost : Bool) → lost ≡ is_lost outcome
+      → Goes steps notes does (IsAnswering is_unfinished lost)
       (record { course = old; table = table; service = s; log = l; sockets = sockets })
       (record { course = new; table = table2; service = t; log = m; sockets = sockets })
-  goes_round is_unfinished outcome end next entries old new table table2 s t l m sockets leads ordered round is remembers = record {
+  goes_round is_unfinished outcome end next entries old new table table2 s t l m sockets leads ordered round is remembers lost is_lost_so = record {
     happenings = dids entries ++ Rounded outcome next ∷ [];
     course = remembers ∙ sym (dids_remember old entries outcome next);
     leads = subst (λ (es : List Entry). Leads steps notes es table s l table2 t m) (sym (dids_entries old entries outcome next)) leads;
     calls = subst (λ (acts : List Act). AreDone does acts sockets sockets) (sym (dids_calls entries outcome next)) refl;
     inner = round_inner outcome next entries ordered;
-    are = (outcome, end, entries, ordered, round, ap (λ (n : ℕ). dids entries ++ Rounded outcome n ∷ []) is);
+    are = (outcome, end, entries, is_lost_so, ordered, round, ap (λ (n : ℕ). dids entries ++ Rounded outcome n ∷ []) is);
   }

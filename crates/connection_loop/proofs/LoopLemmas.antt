@@ -9,8 +9,8 @@ use Rattle.connection_loop.specs.Happenings.{Happening, Call, Did, Rounded, AreI
 use Rattle.connection_loop.specs.Happenings.{calls_of, entries_of, entry_of}
 use Rattle.connection_loop.specs.Phases.{AtEach, IsOuter, Moves, Phase, Then}
 use Rattle.std.specs.Prelude.{Bool, Option, false}
-use Rattle.connection_loop.specs.Acts.{Waited}
-use Rattle.connection_loop.specs.Turns.{IsWaiting, IsWait}
+use Rattle.connection_loop.specs.Acts.{Told, Waited}
+use Rattle.connection_loop.specs.Turns.{IsTold, IsWaiting, IsWait}
 use Rattle.connection_loop.specs.declared.course.Course.{Course}
 use Rattle.connection_loop.specs.declared.limits.Limits.{Limits}
 
@@ -109,6 +109,19 @@ module _ {N : Type 0} (does : N → Act → N → Type 0) where
   each_more P n old mid new table table2 table3 first next last h g =
       subst (λ (k : ℕ). Moves does (AtEach P k) old table first new table3 last) (sym (add-one n))
       (moves_then (AtEach P n) (P n) old mid new table table2 table3 first next last h g)
+
+  -- a reading of the clock
+  pub told : (now : ℕ) (c : Course) (table : List Connection) (first last : N) → does first (Told now) last
+      → Moves does IsTold c table first (record c { clock = now }) table last
+  told now c table first last did = record {
+    happenings = Call (Told now) ∷ [];
+    course = refl;
+    changes = refl;
+    calls = (last, did, refl);
+    inner = tt;
+    outer = tt;
+    are = (now, refl);
+  }
 
   -- a wait
   pub waited : (limits : Limits) (millis : Option ℕ) (went : Bool) (c : Course) (table : List Connection) (first last : N)

@@ -13,7 +13,7 @@ use Rattle.connection_loop.specs.Phases.{Goes, Phase, State}
 use Rattle.connection_loop.specs.Serving.{IsEnd, IsRun, IsServedTogether, accepted_in, accepts, beginning}
 use Rattle.connection_loop.specs.declared.course.Course.{Course}
 use Rattle.connection_loop.specs.declared.limits.Limits.{Limits}
-use Rattle.connection_loop.specs.declared.sockets.NetworkFailed.{NetworkFailed}
+use Rattle.connection_loop.specs.declared.turn.LoopFault.{LoopFault}
 
 counted_act : (c : Course) (act : Act) → (after_act c act).accepted ≡ c.accepted + accepts act
 counted_act c (Waited millis went) = sym (add-zero c.accepted)
@@ -30,7 +30,7 @@ counted_act c (Wrote at bytes) = sym (add-zero c.accepted)
 counted_act c (WroteNothing at) = sym (add-zero c.accepted)
 counted_act c (WriteFailed at) = sym (add-zero c.accepted)
 counted_act c (Closed at why) = sym (add-zero c.accepted)
-counted_act c Warned = sym (add-zero c.accepted)
+counted_act c (Warned done) = sym (add-zero c.accepted)
 
 counted : (c : Course) (hs : List Happening) → (after_all c hs).accepted ≡ c.accepted + accepted_in (calls_of hs)
 counted c [] = sym (add-zero c.accepted)
@@ -57,7 +57,7 @@ module _ {S L N : Type 0} (steps : S → Entry → S → Type 0) (notes : L → 
   }
 
   pub served : StoriesFit → TablesAreBounded → (is_unfinished : List ℕ → Type 0) (limits : Limits) (turns : ℕ) (old new : State S L N)
-      (result : Result (Unit {0}) NetworkFailed) → AreFree old.table → (goes : Goes steps notes does (IsRun limits is_unfinished turns result) old new)
+      (result : Result (Unit {0}) LoopFault) → AreFree old.table → (goes : Goes steps notes does (IsRun limits is_unfinished turns result) old new)
       → IsEnd limits (calls_of goes.happenings) new.table result
       → IsServedTogether steps notes does is_unfinished limits old new result
   served stories bounded is_unfinished limits turns old new result free goes ends = record {

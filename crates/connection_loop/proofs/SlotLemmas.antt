@@ -7,16 +7,16 @@ use Rattle.connections.specs.declared.TheConstants.{MAX_READ}
 use Rattle.connections.specs.declared.slot.Reason.{Reason}
 use Rattle.connections.specs.declared.slot.Reason.TheVariants as Reasons
 use Rattle.connections.proofs.TableLemmas.{get_set_same, some_is}
-use Rattle.connection_loop.specs.Acts.{Act, AreDone}
-use Rattle.connection_loop.specs.Acts.{Accepted, Closed, NoneWaits, NotAccepted, Read, ReadEnd, ReadNothing, ReadFailed, Wrote, WroteNothing, WriteFailed}
+use Rattle.connection_loop.specs.Acts.{Act}
+use Rattle.connection_loop.specs.Acts.{Accepted, Closed, NoneWaits, NotAccepted, Read, ReadEnd, ReadNothing, ReadFailed, Warned, Wrote, WroteNothing, WriteFailed}
 use Rattle.connections.specs.Limits.{IsVictim}
 use Rattle.connections.specs.Rounds.{AreAll}
 use Rattle.connection_loop.specs.Acts.{Queued}
-use Rattle.connection_loop.specs.Happenings.{Call, Did, AreInner, after_act, after_all, calls_of, entries_of}
+use Rattle.connection_loop.specs.Happenings.{Call, Did, Happening, AreInner, after_act, after_all, entries_of}
 use Rattle.connection_loop.specs.Phases.{IsOuter, Moves}
-use Rattle.connection_loop.specs.Turns.{IsClosedAt, IsReadAt, IsRoom, IsSentAt, IsSomeAt, MakesRoom, warning}
+use Rattle.connection_loop.specs.Turns.{IsClosedAt, IsReadAt, IsRoom, IsSentAt, IsSomeAt, IsWarning, MakesRoom}
 use Rattle.connection_loop.specs.declared.limits.Limits.{Limits}
-use Rattle.connection_loop.specs.inner.Tries.{IsARead, IsATry, IsReserved}
+use Rattle.connection_loop.specs.inner.Tries.{IsAFailure, IsARead, IsATry, IsReserved}
 use Rattle.connection_loop.specs.declared.course.Course.{Course}
 
 -- a call that made its change
@@ -45,8 +45,8 @@ later at change old new P has h = (
   has h.before h.after h.changed,
 )
 
-may_still : (a b : Connection) → IsChange Reserved a b → MayRead b × (b.spare ≡ MAX_READ)
-may_still a b h = subst (λ (c : Connection). MayRead c × (c.spare ≡ MAX_READ)) (sym h.1) (
+may_still : (now : ℕ) (a b : Connection) → IsChange (Reserved now) a b → MayRead b × (b.spare ≡ MAX_READ)
+may_still now a b h = subst (λ (c : Connection). MayRead c × (c.spare ≡ MAX_READ)) (sym h.1) (
   record {
     answers = record { is_open = h.0.answers.is_open; drained = h.0.answers.drained; lasts = h.0.answers.lasts; logged = h.0.answers.logged };
     goes_on = h.0.goes_on;
@@ -56,8 +56,8 @@ may_still a b h = subst (λ (c : Connection). MayRead c × (c.spare ≡ MAX_READ
   refl,
 )
 
-pub reserved : (at : ℕ) (old new : List Connection) → ChangesAt at Reserved old new → IsReserved at new
-reserved at old new h = later at Reserved old new (λ c. MayRead c × (c.spare ≡ MAX_READ)) may_still h
+pub reserved : (at now : ℕ) (old new : List Connection) → ChangesAt at (Reserved now) old new → IsReserved at new
+reserved at now old new h = later at (Reserved now) old new (λ c. MayRead c × (c.spare ≡ MAX_READ)) (may_still now) h
 
 pub may_break : (at : ℕ) (table : List Connection) → IsReserved at table → IsSomeAt at (MayEnd Reasons.Broken table) table
 may_break at table h = (h.0, h.1, ((h.2.0.answers.is_open, inl h.2.0), tt))
@@ -195,10 +195,10 @@ module _ {N : Type 0} (does : N → Act → N → Type 0) (c : Course) (at : ℕ
   }
 
   -- a read after memory was reserved for it
-  pub read : (mid : List Connection) (new : Course) → ChangesAt at Reserved table mid → Moves does (IsARead at) c mid first new table2 last
+  pub read : (mid : List Connection) (new : Course) → ChangesAt at (Reserved c.clock) table mid → Moves does (IsARead at) c mid first new table2 last
       → Moves does (IsReadAt at) c table first new table2 last
   read mid new change h = record {
-    happenings = Did (At at Reserved) ∷ h.happenings;
+    happenings = Did (At at (Reserved c.clock)) ∷ h.happenings;
     course = h.course;
     changes = (mid, change, h.changes);
     calls = h.calls;
@@ -207,18 +207,22 @@ module _ {N : Type 0} (does : N → Act → N → Type 0) (c : Course) (at : ℕ
     are = inl (h.happenings, refl, h.are);
   }
 
+-- the warning after the first of consecutive failures
+pub first_warning : (pause : ℕ) (done : Bool) → pause ≡ 0 → IsWarning pause (Call (Warned done) ∷ [])
+first_warning pause done is = subst (λ (n : ℕ). IsWarning n (Call (Warned done) ∷ [])) (sym is) (done, refl)
+
 -- a warning changes nothing
-warned_after : (c : Course) (pause : ℕ) → after_all c (warning pause) ≡ c
-warned_after c zero = refl
-warned_after c (suc n) = refl
+warned_after : (c : Course) (pause : ℕ) (hs : List Happening) → IsWarning pause hs → after_all c hs ≡ c
+warned_after c zero hs h = ap (after_all c) h.1
+warned_after c (suc n) hs h = ap (after_all c) h
 
-warned_entries : (c : Course) (pause : ℕ) → entries_of c (warning pause) ≡ []
-warned_entries c zero = refl
-warned_entries c (suc n) = refl
+warned_entries : (c : Course) (pause : ℕ) (hs : List Happening) → IsWarning pause hs → entries_of c hs ≡ []
+warned_entries c zero hs h = ap (entries_of c) h.1
+warned_entries c (suc n) hs h = ap (entries_of c) h
 
-warned_inner : (pause : ℕ) → AreInner (warning pause)
-warned_inner zero = tt
-warned_inner (suc n) = tt
+warned_inner : (pause : ℕ) (hs : List Happening) → IsWarning pause hs → AreInner hs
+warned_inner zero hs h = subst AreInner (sym h.1) tt
+warned_inner (suc n) hs h = subst AreInner (sym h) tt
 
 -- attempts to accept
 module _ {N : Type 0} (does : N → Act → N → Type 0) (c : Course) (at : ℕ) (table : List Connection) (first last : N) where
@@ -245,17 +249,19 @@ module _ {N : Type 0} (does : N → Act → N → Type 0) (c : Course) (at : ℕ
     are = inl (inr refl);
   }
 
-  pub not_accepted : (next : N) (new : Course) → does first NotAccepted next → new ≡ after_act c NotAccepted
-      → AreDone does (calls_of (warning c.pause)) next last → Moves does (IsATry at) c table first new table last
-  not_accepted next new failed remembers warned = record {
-    happenings = Call NotAccepted ∷ warning c.pause;
-    course = remembers ∙ sym (warned_after (after_act c NotAccepted) c.pause);
-    changes = subst (λ (es : List Entry). AreChanges es table table) (sym (warned_entries (after_act c NotAccepted) c.pause)) refl;
-    calls = (next, failed, warned);
-    inner = warned_inner c.pause;
-    outer = subst (AreAll IsOuter) (sym (warned_entries (after_act c NotAccepted) c.pause)) tt;
-    are = inr refl;
-  }
+  pub not_accepted : (next : N) (new : Course) → does first NotAccepted next → IsAFailure does c next new last
+      → Moves does (IsATry at) c table first new table last
+  not_accepted next new failed h =
+      let none : entries_of (after_act c NotAccepted) h.0 ≡ [] = warned_entries (after_act c NotAccepted) c.pause h.0 h.2 in
+      record {
+        happenings = Call NotAccepted ∷ h.0;
+        course = h.1 ∙ sym (warned_after (after_act c NotAccepted) c.pause h.0 h.2);
+        changes = subst (λ (es : List Entry). AreChanges es table table) (sym none) refl;
+        calls = (next, failed, h.3);
+        inner = warned_inner c.pause h.0 h.2;
+        outer = subst (AreAll IsOuter) (sym none) tt;
+        are = inr (h.0, refl, h.2);
+      }
 
 -- room for a client that waits
 victim_may : (at : ℕ) (table : List Connection) → IsVictim table (Some at) → IsSomeAt at (MayEnd Reasons.MadeRoom table) table

@@ -13,7 +13,7 @@ use Rattle.connection_loop.specs.declared.sockets.Writing.TheVariants as writing
 -- that the clock told; a connection that was accepted at a slot, or that none waits, or that accepting failed; whether
 -- a client waits to be accepted; of one socket, the bytes that a read gave, that its client sends no more, that there
 -- is nothing yet, or that the read failed; the bytes that a write took, that it takes nothing yet, or that the write
--- failed; a socket that was closed, and why; a warning that accepting fails.
+-- failed; a socket that was closed, and why; a warning that accepting fails, and whether it was written.
 pub data Act : Type 0 where
   Waited : (millis : Option ℕ) → (went : Bool) → Act
   Told : (now : ℕ) → Act
@@ -29,7 +29,7 @@ pub data Act : Type 0 where
   WroteNothing : (at : ℕ) → Act
   WriteFailed : (at : ℕ) → Act
   Closed : (at : ℕ) → (why : Reason) → Act
-  Warned : Act
+  Warned : (done : Bool) → Act
 
 module _ {N : Type 0} (does : N → Act → N → Type 0) where
   -- `AreDone acts old new` holds if the acts, one after another, lead from the state `old` of the sockets to `new`.

@@ -49,7 +49,7 @@ after_act c (Wrote at bytes) = record c { busy = true }
 after_act c (WroteNothing at) = c
 after_act c (WriteFailed at) = c
 after_act c (Closed at why) = record c { busy = true }
-after_act c Warned = c
+after_act c (Warned done) = c
 
 -- `is_left outcome` is true if a round with this outcome may leave more to do: if it answered a request.
 abbrev pub is_left : Outcome → Bool
@@ -86,7 +86,7 @@ entry_of now (Wrote at bytes) = At at (Took bytes now) ∷ []
 entry_of now (WroteNothing at) = At at (Asked now) ∷ []
 entry_of now (WriteFailed at) = []
 entry_of now (Closed at why) = At at (Gone why) ∷ []
-entry_of now Warned = []
+entry_of now (Warned done) = []
 
 -- `entries_of c hs` are the entries of the table that the happenings `hs` of a loop that remembers `c` are.
 abbrev pub entries_of : Course → List Happening → List Entry
@@ -105,7 +105,7 @@ calls_of (Rounded outcome next ∷ hs) = calls_of hs
 -- `IsInner change` holds if the sockets do not see the change.
 abbrev pub IsInner : Change → Type 0
 IsInner (Opened now) = ⊥
-IsInner Reserved = Unit {0}
+IsInner (Reserved now) = Unit {0}
 IsInner (Came bytes now) = ⊥
 IsInner Ended = ⊥
 IsInner (Asked now) = ⊥

@@ -43,7 +43,7 @@ Each P c table hs = AtEach P (length table) c table hs
 -- `IsOuter change` holds if neither the service nor the log has a part in the change.
 abbrev pub IsOuter : Change → Type 0
 IsOuter (Opened now) = Unit {0}
-IsOuter Reserved = Unit {0}
+IsOuter (Reserved now) = Unit {0}
 IsOuter (Came bytes now) = Unit {0}
 IsOuter Ended = Unit {0}
 IsOuter (Asked now) = Unit {0}

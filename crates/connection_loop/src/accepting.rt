@@ -14,7 +14,7 @@ use connections::slot::{Reason, Slot};
 use connections::table::{close, open};
 
 /// Returns whether each slot has a connection.
-fn is_full(slots: &[Slot]) -> bool
+pub(crate) fn is_full(slots: &[Slot]) -> bool
     ensures yes { IsTrue result → IsFull slots.now }
     ensures no { IsFalse result → IsFull slots.now → ⊥ }
 {

@@ -1,10 +1,10 @@
 //! Closing connections.
 ghost use Rattle.std.specs.Prelude.{ℕ};
 ghost use Rattle.connection_loop.specs.Phases.{Each, Moves};
-ghost use Rattle.connection_loop.specs.Turns.{IsClearing, IsClosedAt, IsRelief};
+ghost use Rattle.connection_loop.specs.Turns.{IsClearing, IsClosedAt, IsExpiring, IsRelief};
 
 use crate::course::Course;
-use crate::limits::{Limits, is_crowded};
+use crate::limits::{Limits, is_crowded, is_limited};
 use crate::sockets::Sockets;
 use connections::limits::slowest;
 use connections::slot::{Reason, Slot};
@@ -35,7 +35,17 @@ pub fn close_each<N: Sockets>(slots: &mut [Slot], why: Reason, sockets: &mut N, 
     }
 }
 
-/// Closes the slowest reader, if too many bytes are unsent.
+/// Closes each connection that is over a limit of time, if one may be closed for the sake of others.
+pub fn expire<N: Sockets>(slots: &mut [Slot], limits: &Limits, sockets: &mut N, course: &mut Course)
+    ensures { Moves N.does (IsExpiring limits.now) course.old slots.old sockets.old course.new slots.new sockets.new }
+{
+    if !is_limited(slots, limits) {
+        return;
+    }
+    close_each(slots, Reason::Expired(limits.idle), sockets, course);
+}
+
+/// Closes the reader that is longest too slow, if the table is crowded.
 pub fn relieve<N: Sockets>(
     slots: &mut [Slot],
     limits: &Limits,

@@ -4,15 +4,16 @@ ghost use Rattle.connection_loop.specs.Turns.{IsCrowded, IsLimited, most_of};
 
 use crate::MOST;
 use connections::slot::Slot;
-use connections::table::is_full;
+use connections::table;
 
 /// How many connections a loop accepts, and how long they may be silent.
 #[derive(Clone, Copy)]
 pub struct Limits {
     /// The number of connections to accept; none for any number.
     pub connections: Option<u64>,
-    /// The milliseconds without a byte after which a connection is closed; 0 for no limit of time.
-    pub idle: u64,
+    /// The milliseconds without a byte after which a connection is closed; none for no limit of silence. Without it,
+    /// one slot alone has no limit of time; with more slots, a request and a reply keep theirs.
+    pub idle: Option<u64>,
 }
 
 /// Returns whether a connection may be closed for the sake of others.
@@ -20,10 +21,14 @@ pub fn is_limited(slots: &[Slot], limits: &Limits) -> bool
     ensures yes { IsTrue result → IsLimited limits.now slots.now }
     ensures no { IsFalse result → IsLimited limits.now slots.now → ⊥ }
 {
-    limits.idle > 0 || slots.len() > 1
+    match limits.idle {
+        Some(_) => true,
+        None => slots.len() > 1,
+    }
 }
 
-/// Returns whether the slowest reader is to be closed: too many bytes are unsent.
+/// Returns whether the reader that is longest too slow is to be closed: too many bytes are unsent, and another
+/// connection waits for its answer.
 pub fn is_crowded(slots: &[Slot], limits: &Limits) -> bool
     ensures yes { IsTrue result → IsCrowded limits.now slots.now }
     ensures no { IsFalse result → IsCrowded limits.now slots.now → ⊥ }
@@ -31,7 +36,7 @@ pub fn is_crowded(slots: &[Slot], limits: &Limits) -> bool
     if !is_limited(slots, limits) {
         return false;
     }
-    is_full(slots)
+    table::is_crowded(slots)
 }
 
 impl Limits {
@@ -47,7 +52,8 @@ impl Limits {
 
     /// Returns whether a number of connections is given, and is `accepted`.
     pub fn are_reached(&self, accepted: u64) -> bool
-        ensures { IsTrue result → self.now.connections ≡ Some accepted }
+        ensures reached { IsTrue result → self.now.connections ≡ Some accepted }
+        ensures not_reached { IsFalse result → self.now.connections ≡ Some accepted → ⊥ }
     {
         match self.connections {
             Some(number) => number == accepted,

@@ -45,7 +45,7 @@ fn receive<N: Sockets>(
 }
 
 /// Reads once from the connection at the slot `at`, if it may be read from. If memory for this is refused, the
-/// connection is closed as one whose read failed: this frees memory for the others.
+/// connection is closed: this frees memory for the others.
 fn read_at<N: Sockets>(
     slots: &mut [Slot],
     at: usize,
@@ -57,10 +57,10 @@ fn read_at<N: Sockets>(
     requires most { length chunk.old ≤ MAX_READ }
     ensures { Moves N.does (IsReadAt at) course.old slots.old sockets.old course.new slots.new sockets.new }
 {
-    match reserve(slots, at) {
+    match reserve(slots, at, course.clock) {
         Ok(true) => receive(slots, at, sockets, course, chunk),
         Ok(false) => {}
-        Err(_) => close_at(slots, at, Reason::Broken, sockets, course),
+        Err(_) => close_at(slots, at, Reason::NoMemory, sockets, course),
     }
 }
 

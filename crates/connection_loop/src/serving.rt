@@ -1,16 +1,16 @@
 //! Serving many connections.
-ghost use Rattle.std.specs.Prelude.{◌≡◌, ◌≤◌, ◌<◌, ℕ, length, IsTrue};
+ghost use Rattle.std.specs.Prelude.{◌≡◌, ◌≤◌, ◌<◌, ℕ, length, IsTrue, IsFalse};
 ghost use Rattle.connections.specs.Steps.{Notes, Steps};
 ghost use Rattle.connections.specs.Stories.{AreFree};
 ghost use Rattle.connections.specs.declared.TheConstants.{MAX_READ};
-ghost use Rattle.connection_loop.specs.Serving.{IsEmpty, IsServedTogether, beginning};
+ghost use Rattle.connection_loop.specs.Serving.{AreAllGone, IsEmpty, IsServedTogether, beginning};
 ghost use Rattle.connection_loop.specs.declared.course.Course as remembered;
 
 use crate::MOST;
 use crate::course::Course;
 use crate::limits::Limits;
-use crate::sockets::{NetworkFailed, Sockets};
-use crate::turn::turn;
+use crate::sockets::Sockets;
+use crate::turn::{LoopFault, turn};
 use connections::laws::{stories_fit, tables_are_bounded, tables_are_ready};
 use connections::logging::Log;
 use connections::service::Service;
@@ -18,7 +18,8 @@ use connections::slot::Slot;
 
 /// Returns whether no slot has a connection.
 fn is_empty(slots: &[Slot]) -> bool
-    ensures { IsTrue result → IsEmpty slots.now }
+    ensures empty { IsTrue result → IsEmpty slots.now }
+    ensures not_empty { IsFalse result → IsEmpty slots.now → ⊥ }
 {
     for slot in slots {
         if slot.is_open() {
@@ -28,12 +29,21 @@ fn is_empty(slots: &[Slot]) -> bool
     true
 }
 
+/// Returns whether as many connections as the limits give were accepted, and are gone.
+fn are_all_gone(slots: &[Slot], limits: &Limits, course: &Course) -> bool
+    ensures gone { IsTrue result → AreAllGone limits.now course.now slots.now }
+    ensures not_gone { IsFalse result → AreAllGone limits.now course.now slots.now → ⊥ }
+{
+    limits.are_reached(course.accepted) && is_empty(slots)
+}
+
 /// Serves as many connections at once as the table has slots, until as many as the limits give were accepted, and are
 /// gone. `chunk` is memory for one read.
 ///
 /// # Errors
 ///
-/// - `NetworkFailed`: a wait failed, or there were 2^64 - 1 turns.
+/// - `LoopFault::Network`: a wait failed, or there were 2^64 - 1 turns.
+/// - `LoopFault::Commit`: the commit of a round failed. Nothing of the replies of this round was written or logged.
 pub fn serve_all<S: Service, L: Log, N: Sockets>(
     slots: &mut [Slot],
     service: &mut S,
@@ -41,7 +51,7 @@ pub fn serve_all<S: Service, L: Log, N: Sockets>(
     sockets: &mut N,
     limits: &Limits,
     chunk: &mut [u8],
-) -> Result<(), NetworkFailed>
+) -> Result<(), LoopFault>
     requires free { AreFree slots.old }
     requires some { 0 < length chunk.old }
     requires most { length chunk.old ≤ MAX_READ }
@@ -56,13 +66,13 @@ pub fn serve_all<S: Service, L: Log, N: Sockets>(
     tables_are_ready::<S>();
     let mut course = Course::beginning();
     for turns in 0..MOST {
-        if limits.are_reached(course.accepted) && is_empty(slots) {
+        if are_all_gone(slots, limits, &course) {
             return Ok(());
         }
         match turn(slots, service, log, sockets, &mut course, limits, chunk) {
             Ok(()) => {}
-            Err(NetworkFailed) => return Err(NetworkFailed),
+            Err(fault) => return Err(fault),
         }
     }
-    Err(NetworkFailed)
+    Err(LoopFault::Network)
 }

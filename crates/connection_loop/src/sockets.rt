@@ -37,7 +37,12 @@ pub trait Sockets {
     // `does old act new` holds if `act` may happen in the state `old` and lead to `new`.
     ghost does: { Self → Act → Self → Type 0 };
 
-    /// Waits until a call may give more than it last did, or for so many milliseconds, if any are given.
+    /// Waits until a call that gave nothing when it was last made may give more, or for so many milliseconds, if any
+    /// are given. What changed before the wait, and since that call, ends it at once.
+    ///
+    /// A wait may sleep over anything else that a call would give, so the caller first makes each call that it wants
+    /// until it gives nothing. Nor is a wait to end again and again for a call that the caller does not want: a client
+    /// whose reply is under way may send, and one may wait to be accepted while no slot is free.
     ///
     /// # Errors
     ///
@@ -76,7 +81,7 @@ pub trait Sockets {
     fn close(&mut self, at: usize, why: Reason)
         ensures { does self.old (Closed at why) self.new };
 
-    /// Warns that accepting fails.
-    fn warn(&mut self)
-        ensures { does self.old Warned self.new };
+    /// Warns that accepting fails; returns whether the warning was written.
+    fn warn(&mut self) -> bool
+        ensures { does self.old (Warned result) self.new };
 }

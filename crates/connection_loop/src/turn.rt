@@ -1,24 +1,33 @@
 //! One turn of a loop.
-ghost use Rattle.std.specs.Prelude.{◌≡◌, ◌≤◌, ◌<◌, ℕ, length, is_ok};
+ghost use Rattle.std.specs.Prelude.{◌≡◌, ◌≤◌, ◌<◌, ℕ, length};
 ghost use Rattle.connections.specs.Rounds.{AreReady};
 ghost use Rattle.connections.specs.Steps.{Notes, Steps};
 ghost use Rattle.connections.specs.declared.TheConstants.{MAX_READ};
 ghost use Rattle.connection_loop.specs.Phases.{Goes, Moves};
-ghost use Rattle.connection_loop.specs.Turns.{IsAnswering, IsIncoming, IsLimiting, IsOutgoing, IsTurnIf};
+ghost use Rattle.connection_loop.specs.Turns.{IsAnswering, IsIncoming, IsLimiting, IsOutgoing, IsTurn, is_lost};
 
 use crate::accepting::{accept_each, make_room};
-use crate::closing::{clear, close_each, relieve};
+use crate::closing::{clear, expire, relieve};
 use crate::course::Course;
 use crate::limits::Limits;
 use crate::reading::read_each;
-use crate::sockets::{NetworkFailed, Sockets};
+use crate::sockets::Sockets;
 use crate::waiting::wait_of;
 use crate::writing::write_each;
 use connections::laws::tables_are_ready;
 use connections::logging::Log;
 use connections::service::Service;
-use connections::slot::{Reason, Slot};
-use connections::table::round;
+use connections::slot::Slot;
+use connections::table::{Outcome, round};
+
+/// The error of a turn, and of a loop.
+#[derive(Clone, Copy)]
+pub enum LoopFault {
+    /// A wait failed, or there were 2^64 - 1 turns.
+    Network,
+    /// The service failed to commit its replies, so its state is not what is recorded.
+    Commit,
+}
 
 /// Reads the clock, accepts, and reads once from each connection.
 fn receive_all<N: Sockets>(
@@ -38,17 +47,27 @@ fn receive_all<N: Sockets>(
     read_each(slots, sockets, course, chunk);
 }
 
-/// Makes one round of answers, from the slot on at which the last one stopped.
+/// Returns whether a round with this outcome lost its replies.
+fn is_lost(outcome: Outcome) -> bool
+    ensures { result ≡ is_lost outcome }
+{
+    match outcome {
+        Outcome::Quiet | Outcome::Answered => false,
+        Outcome::Uncommitted => true,
+    }
+}
+
+/// Makes one round of answers, from the slot on at which the last one stopped; returns whether it lost its replies.
 fn answer_round<S: Service, L: Log, N: Sockets>(
     slots: &mut [Slot],
     service: &mut S,
     log: &mut L,
     sockets: &N,
     course: &mut Course,
-)
+) -> bool
     requires { AreReady S.is_unfinished slots.old }
     ensures goes { Goes (Steps S.answers S.lines S.commits S.commit_fails) (Notes L.writes L.cuts) N.does
-        (IsAnswering S.is_unfinished)
+        (IsAnswering S.is_unfinished result)
         (record { course = course.old; table = slots.old; service = service.old; log = log.old; sockets = sockets.now })
         (record {
           course = course.new;
@@ -61,24 +80,26 @@ fn answer_round<S: Service, L: Log, N: Sockets>(
 {
     let rounded = round(slots, course.from, service, log);
     course.note_round(rounded.outcome, rounded.next(slots));
+    is_lost(rounded.outcome)
 }
 
-/// Closes each connection that is over a limit of time, then the slowest reader if too many bytes are unsent, and then
-/// the one that makes room for a client that waits.
+/// Closes each connection that is over a limit of time, then the reader that is longest too slow if the table is
+/// crowded, and then the one that makes room for a client that waits.
 fn limit_all<N: Sockets>(slots: &mut [Slot], limits: &Limits, sockets: &mut N, course: &mut Course)
     ensures { Moves N.does (IsLimiting limits.now) course.old slots.old sockets.old
         course.new slots.new sockets.new }
 {
-    close_each(slots, Reason::Expired(limits.idle), sockets, course);
+    expire(slots, limits, sockets, course);
     relieve(slots, limits, sockets, course);
     make_room(slots, limits, sockets, course);
 }
 
-/// Writes once to each connection, and closes what is over, and what is over a limit of time.
+/// Reads the clock, writes once to each connection, and closes what is over, and what is over a limit of time.
 fn send_all<N: Sockets>(slots: &mut [Slot], limits: &Limits, sockets: &mut N, course: &mut Course)
     ensures { Moves N.does (IsOutgoing limits.now) course.old slots.old sockets.old
         course.new slots.new sockets.new }
 {
+    course.clock = sockets.now();
     write_each(slots, sockets, course);
     clear(slots, sockets, course);
     limit_all(slots, limits, sockets, course);
@@ -89,7 +110,9 @@ fn send_all<N: Sockets>(slots: &mut [Slot], limits: &Limits, sockets: &mut N, co
 ///
 /// # Errors
 ///
-/// - `NetworkFailed`: the wait failed; nothing else happened.
+/// - `LoopFault::Network`: the wait failed; nothing else happened.
+/// - `LoopFault::Commit`: the commit of the round failed; the connections that lost a reply are closed, and nothing is
+///   written. No other turn is to follow.
 pub fn turn<S: Service, L: Log, N: Sockets>(
     slots: &mut [Slot],
     service: &mut S,
@@ -98,12 +121,12 @@ pub fn turn<S: Service, L: Log, N: Sockets>(
     course: &mut Course,
     limits: &Limits,
     chunk: &mut [u8],
-) -> Result<(), NetworkFailed>
+) -> Result<(), LoopFault>
     requires ready { AreReady S.is_unfinished slots.old }
     requires some { 0 < length chunk.old }
     requires most { length chunk.old ≤ MAX_READ }
     ensures goes { Goes (Steps S.answers S.lines S.commits S.commit_fails) (Notes L.writes L.cuts) N.does
-        (IsTurnIf (is_ok result) limits.now S.is_unfinished)
+        (IsTurn limits.now S.is_unfinished result)
         (record { course = course.old; table = slots.old; service = service.old; log = log.old; sockets = sockets.old })
         (record {
           course = course.new;
@@ -121,10 +144,13 @@ pub fn turn<S: Service, L: Log, N: Sockets>(
     course.sought = false;
     match sockets.wait(millis) {
         Ok(()) => {}
-        Err(NetworkFailed) => return Err(NetworkFailed),
+        Err(_) => return Err(LoopFault::Network),
     }
     receive_all(slots, limits, sockets, course, chunk);
-    answer_round(slots, service, log, sockets, course);
+    if answer_round(slots, service, log, sockets, course) {
+        clear(slots, sockets, course);
+        return Err(LoopFault::Commit);
+    }
     send_all(slots, limits, sockets, course);
     Ok(())
 }

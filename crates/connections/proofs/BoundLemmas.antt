@@ -59,7 +59,7 @@ answered_held a b request closes reply line h =
 few : (change : Change) (a b : Connection) (table : List Connection) → IsChange change a b → HasRoom change a table
     → longs table ≤ MAX_LONG → longs table + one b ≤ MAX_LONG + one a
 few (Opened now) a b table h room less = subst (λ (c : Connection). longs table + one c ≤ MAX_LONG + one a) (sym h.1) (omega arith)
-few Reserved a b table h room less = subst (λ (c : Connection). longs table + one c ≤ MAX_LONG + one a) (sym h.1) (elim room [
+few (Reserved now) a b table h room less = subst (λ (c : Connection). longs table + one c ≤ MAX_LONG + one a) (sym h.1) (elim room [
   | inl short ↦ elim (one_at (length a.input + MAX_READ)) [ inl x ↦ omega arith | inr x ↦ absurd (omega arith) ]
   | inr other ↦ elim other [
     | inl long ↦ elim (one_at (length a.input + MAX_READ)) [
@@ -83,7 +83,7 @@ few (Gone why) a b table h room less = subst (λ (c : Connection). longs table +
 sent : (change : Change) (a b : Connection) (table : List Connection) (most : ℕ) → IsChange change a b → HasRoom change a table
     → reply_in change ≤ most → unsent table ≤ MAX_UNSENT + most → unsent table + size b ≤ MAX_UNSENT + most + size a
 sent (Opened now) a b table most h room small less = omega (arith, ap (λ (c : Connection). size c) h.1)
-sent Reserved a b table most h room small less = omega (arith, ap (λ (c : Connection). size c) h.1)
+sent (Reserved now) a b table most h room small less = omega (arith, ap (λ (c : Connection). size c) h.1)
 sent (Came bytes now) a b table most h room small less = omega (arith, ap (λ (c : Connection). size c) h.3)
 sent Ended a b table most h room small less = omega (arith, ap (λ (c : Connection). size c) h.1)
 sent (Asked now) a b table most h room small less = omega (arith, ap (λ (c : Connection). size c) h.1)

@@ -57,7 +57,7 @@ answers_join at (Uncommitted ∷ first) later = answers_join at first later
 -- lines are no answers
 line_answers : (change : Change) → IsALine change → answers_in change ≡ 0
 line_answers (Opened now) h = absurd h
-line_answers Reserved h = absurd h
+line_answers (Reserved now) h = absurd h
 line_answers (Came bytes now) h = absurd h
 line_answers Ended h = absurd h
 line_answers (Asked now) h = absurd h
@@ -87,7 +87,7 @@ replied_join (Uncommitted ∷ first) later = replied_join first later
 
 line_replies : (change : Change) → IsALine change → reply_in change ≡ 0
 line_replies (Opened now) h = absurd h
-line_replies Reserved h = absurd h
+line_replies (Reserved now) h = absurd h
 line_replies (Came bytes now) h = absurd h
 line_replies Ended h = absurd h
 line_replies (Asked now) h = absurd h
@@ -108,7 +108,7 @@ module _ {S : Type 0} (answers : Answering S) (lines : LineRelation) (commits co
   -- the service stays while the log gets lines
   line_step : (s : S) (at : ℕ) (change : Change) → IsALine change → Steps answers lines commits commit_fails s (At at change) s
   line_step s at (Opened now) h = absurd h
-  line_step s at Reserved h = absurd h
+  line_step s at (Reserved now) h = absurd h
   line_step s at (Came bytes now) h = absurd h
   line_step s at Ended h = absurd h
   line_step s at (Asked now) h = absurd h
@@ -130,7 +130,7 @@ module _ {L : Type 0} (writes cuts : L → List ℕ → L → Type 0) where
   -- the log stays while requests are answered
   turn_note : (l : L) (at : ℕ) (change : Change) → IsATurn change → Notes writes cuts l (At at change) l
   turn_note l at (Opened now) h = absurd h
-  turn_note l at Reserved h = absurd h
+  turn_note l at (Reserved now) h = absurd h
   turn_note l at (Came bytes now) h = absurd h
   turn_note l at Ended h = absurd h
   turn_note l at (Asked now) h = absurd h

@@ -4,7 +4,7 @@ use Rattle.std.specs.Prelude.{Option, if◌then◌else◌, nat_lt, slice_get, sl
 use Rattle.std.proofs.lemmas.Bool.{cases_lt}
 use Rattle.std.proofs.lemmas.Bool.Decides.{nat_tests}
 use Rattle.std.proofs.lemmas.Option.{slice_get_within}
-use Rattle.connections.specs.Connections.{At, AreChanges, ChangesAt, Connection, Entry, Gone, IsCalledFor, fresh, unsent, unsent_of}
+use Rattle.connections.specs.Connections.{At, AreChanges, AwaitsAnswer, ChangesAt, Connection, Entry, Gone, HasOne, IsCalledFor, fresh, unsent, unsent_of}
 use Rattle.connections.specs.Limits.{AreClosed, HasClaim, IsDue, IsEarliest, IsFirstAfter, IsOneOver, IsOverLimit, claimed}
 use Rattle.connections.specs.Made.{IsMade, MayClose, MayEnd}
 use Rattle.connections.specs.Rounds.{AreAll}
@@ -19,23 +19,43 @@ use Rattle.connections.specs.Times.{first_of_both}
 use Rattle.connections.proofs.JoinLemmas.{all_join, changes_join}
 use Rattle.connections.proofs.TableLemmas.{eq_or_not, get_set_other, get_set_same, some_is, sum_set}
 
+-- a connection that awaits an answer after another is closed awaited one before
+free_awaits_none : AwaitsAnswer (fresh false 0) → ⊥
+free_awaits_none h = let both : false ≡ true = h.0.is_open in cc
+
+awaited_before : (why : Reason) (at : ℕ) (now next : List Connection) → ChangesAt at (Gone why) now next
+    → HasOne AwaitsAnswer next → HasOne AwaitsAnswer now
+awaited_before why at now next move one =
+    let found : slice_get (slice_set now at move.after) one.0 ≡ Some one.1 = ap (λ (t : List Connection). slice_get t one.0) (sym move.is) ∙ one.2 in
+    elim (eq_or_not at one.0) [
+      | inl here ↦
+          let set : slice_get (slice_set now at move.after) at ≡ Some move.after = get_set_same now at move.before move.after move.found in
+          let is : one.1 ≡ fresh false 0 =
+          some_is (sym found ∙ ap (slice_get (slice_set now at move.after)) (sym here) ∙ set) ∙ move.changed.2 in
+          absurd (free_awaits_none (subst AwaitsAnswer is one.3))
+      | inr differ ↦ (one.0, one.1, sym (get_set_other now at one.0 move.after differ) ∙ found, one.3)
+    ]
+
 -- what a table calls for after a connection is closed, it called for before
 called_before : (why : Reason) (at : ℕ) (now next : List Connection) → ChangesAt at (Gone why) now next → IsCalledFor why next
     → IsCalledFor why now
 called_before Reasons.Over at now next move calls = tt
 called_before Reasons.Broken at now next move calls = tt
+called_before Reasons.NoMemory at now next move calls = tt
 called_before Reasons.Unlogged at now next move calls = tt
 called_before Reasons.Uncommitted at now next move calls = tt
 called_before (Reasons.Expired idle) at now next move calls = tt
 called_before Reasons.MadeRoom at now next move calls = tt
-called_before Reasons.Crowded at now next move calls =
-    omega (
-      arith,
-      calls,
-      ap (λ (t : List Connection). unsent t) move.is,
-      sum_set (λ c. unsent_of c) now at move.before move.after move.found,
-      ap (λ (c : Connection). unsent_of c) move.changed.2,
-    )
+called_before Reasons.Crowded at now next move calls = (
+  omega (
+    arith,
+    calls.0,
+    ap (λ (t : List Connection). unsent t) move.is,
+    sum_set (λ c. unsent_of c) now at move.before move.after move.found,
+    ap (λ (c : Connection). unsent_of c) move.changed.2,
+  ),
+  awaited_before Reasons.Crowded at now next move calls.1,
+)
 
 -- the connections below `at` are closed that may be
 module _ (why : Reason) (table : List Connection) where

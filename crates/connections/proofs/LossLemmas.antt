@@ -28,7 +28,7 @@ no_commit_unlogged h g = cc
 uncommitted : (change : Change) (a b : Connection) → a.is_open ≡ true → a.stage ≡ Stages.Uncommitted
     → IsChange change a b → change ≡ Gone Reasons.Uncommitted
 uncommitted (Opened now) a b h s i = absurd (not_both a.is_open h i.0)
-uncommitted Reserved a b h s i = absurd (no_log_uncommitted s i.0.answers.logged)
+uncommitted (Reserved now) a b h s i = absurd (no_log_uncommitted s i.0.answers.logged)
 uncommitted (Came bytes now) a b h s i = absurd (no_log_uncommitted s i.0.answers.logged)
 uncommitted Ended a b h s i = absurd (no_log_uncommitted s i.0.answers.logged)
 uncommitted (Asked now) a b h s i = elim i.0 [ inl may ↦ absurd (no_log_uncommitted s may.answers.logged) | inr may ↦ absurd (no_log_uncommitted s may.1) ]
@@ -40,6 +40,7 @@ uncommitted (Took bytes now) a b h s i = absurd (no_log_uncommitted s i.1)
 uncommitted (Gone Reasons.Over) a b h s i = absurd (no_log_uncommitted s i.1.logged)
 uncommitted (Gone Reasons.Broken) a b h s i =
     elim i.1 [ inl may ↦ absurd (no_log_uncommitted s may.answers.logged) | inr may ↦ absurd (no_log_uncommitted s may.1) ]
+uncommitted (Gone Reasons.NoMemory) a b h s i = absurd (no_log_uncommitted s i.1.answers.logged)
 uncommitted (Gone Reasons.Unlogged) a b h s i = absurd (no_other s i.1)
 uncommitted (Gone Reasons.Uncommitted) a b h s i = refl
 uncommitted (Gone (Reasons.Expired idle)) a b h s i = absurd (no_log_uncommitted s i.1.0)
@@ -49,7 +50,7 @@ uncommitted (Gone Reasons.Crowded) a b h s i = absurd (no_log_uncommitted s i.1.
 unlogged : (change : Change) (a b : Connection) → a.is_open ≡ true → a.stage ≡ Stages.Unlogged
     → IsChange change a b → change ≡ Gone Reasons.Unlogged
 unlogged (Opened now) a b h s i = absurd (not_both a.is_open h i.0)
-unlogged Reserved a b h s i = absurd (no_log_unlogged s i.0.answers.logged)
+unlogged (Reserved now) a b h s i = absurd (no_log_unlogged s i.0.answers.logged)
 unlogged (Came bytes now) a b h s i = absurd (no_log_unlogged s i.0.answers.logged)
 unlogged Ended a b h s i = absurd (no_log_unlogged s i.0.answers.logged)
 unlogged (Asked now) a b h s i = elim i.0 [ inl may ↦ absurd (no_log_unlogged s may.answers.logged) | inr may ↦ absurd (no_log_unlogged s may.1) ]
@@ -61,6 +62,7 @@ unlogged (Took bytes now) a b h s i = absurd (no_log_unlogged s i.1)
 unlogged (Gone Reasons.Over) a b h s i = absurd (no_log_unlogged s i.1.logged)
 unlogged (Gone Reasons.Broken) a b h s i =
     elim i.1 [ inl may ↦ absurd (no_log_unlogged s may.answers.logged) | inr may ↦ absurd (no_log_unlogged s may.1) ]
+unlogged (Gone Reasons.NoMemory) a b h s i = absurd (no_log_unlogged s i.1.answers.logged)
 unlogged (Gone Reasons.Unlogged) a b h s i = refl
 unlogged (Gone Reasons.Uncommitted) a b h s i = absurd (no_other i.1 s)
 unlogged (Gone (Reasons.Expired idle)) a b h s i = absurd (no_log_unlogged s i.1.0)

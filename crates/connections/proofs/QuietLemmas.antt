@@ -41,7 +41,7 @@ module _ {S : Type 0} (answers : Answering S) (lines : LineRelation) (commits co
   step : (st : Story) (change : Change) (old new : S) → AreWhole st.turns → StepsAt answers lines commits commit_fails old change new
       → AreWhole (continued st change).turns
   step st (Opened now) old new h s = tt
-  step st Reserved old new h s = h
+  step st (Reserved now) old new h s = h
   step st (Came bytes now) old new h s = h
   step st Ended old new h s = h
   step st (Asked now) old new h s = h

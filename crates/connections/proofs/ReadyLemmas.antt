@@ -15,7 +15,7 @@ use Rattle.connections.proofs.TableLemmas.{eq_or_not, get_set_other, get_set_sam
 -- a change but a turn keeps a settled reply settled
 keeps_settled : (change : Change) (a b : Connection) → (IsATurn change → ⊥) → IsChange change a b → IsSettledAt a.stage → IsSettledAt b.stage
 keeps_settled (Opened now) a b no_turn h s = subst (λ (c : Connection). IsSettledAt c.stage) (sym h.1) tt
-keeps_settled Reserved a b no_turn h s = subst (λ (c : Connection). IsSettledAt c.stage) (sym h.1) s
+keeps_settled (Reserved now) a b no_turn h s = subst (λ (c : Connection). IsSettledAt c.stage) (sym h.1) s
 keeps_settled (Came bytes now) a b no_turn h s = subst (λ (c : Connection). IsSettledAt c.stage) (sym h.3) s
 keeps_settled Ended a b no_turn h s = subst (λ (c : Connection). IsSettledAt c.stage) (sym h.1) s
 keeps_settled (Asked now) a b no_turn h s = subst (λ (c : Connection). IsSettledAt c.stage) (sym h.1) s
@@ -55,7 +55,7 @@ module _ (is_unfinished : List ℕ → Type 0) where
   -- a change but a turn keeps the number of bytes that a connection needs
   keeps_need : (change : Change) (a b : Connection) → (IsATurn change → ⊥) → IsChange change a b → Needs a → Needs b
   keeps_need (Opened now) a b no_turn h s = subst Needs (sym h.1) (needs_none [])
-  keeps_need Reserved a b no_turn h s = subst Needs (sym h.1) s
+  keeps_need (Reserved now) a b no_turn h s = subst Needs (sym h.1) s
   keeps_need (Came bytes now) a b no_turn h s = subst Needs (sym h.3) (needs_with a.input bytes a.needed s)
   keeps_need Ended a b no_turn h s = subst Needs (sym h.1) s
   keeps_need (Asked now) a b no_turn h s = subst Needs (sym h.1) s
@@ -115,7 +115,7 @@ module _ (is_unfinished : List ℕ → Type 0) where
 
   line_is_no_turn : (change : Change) → IsALine change → IsATurn change → ⊥
   line_is_no_turn (Opened now) h g = h
-  line_is_no_turn Reserved h g = h
+  line_is_no_turn (Reserved now) h g = h
   line_is_no_turn (Came bytes now) h g = h
   line_is_no_turn Ended h g = h
   line_is_no_turn (Asked now) h g = h

@@ -4,7 +4,7 @@ use Rattle.std.specs.Prelude.{slice_get, slice_set, if◌then◌else◌}
 use Rattle.std.specs.List.{flat_map}
 use Rattle.std.proofs.lemmas.Grind.{flat_map-append}
 use Rattle.std.proofs.lemmas.Option.{slice_get_within}
-use Rattle.connections.specs.Connections.{AreChanges, Change, ChangesAt, Connection, Entry, IsChange, fresh, start_of}
+use Rattle.connections.specs.Connections.{AreChanges, Change, ChangesAt, Connection, Entry, IsChange, fresh, start_of, takes_permit}
 use Rattle.connections.specs.Connections.{committed, committed_at, uncommitted, uncommitted_at}
 use Rattle.connections.specs.Connections.{At, Committed, Uncommitted}
 use Rattle.connections.specs.Connections.{Opened, Reserved, Came, Ended, Asked, Lacked, Answered, Logged, CutOff, Took, Gone}
@@ -42,8 +42,12 @@ moved st s a line held fits =
 -- a connection still fits its story after one more change
 step : (st : Story) (change : Change) (a b : Connection) → Fits st a → IsChange change a b → Fits (continued st change) b
 step st (Opened now) a b fits h = subst (Fits no_story) (sym h.1) (first_fits true now)
-step st Reserved a b fits h =
-    let next : Fits st (record a { spare = MAX_READ }) =
+step st (Reserved now) a b fits h =
+    let next : Fits st (record a {
+      spare = MAX_READ;
+      since = if takes_permit a then now else a.since;
+      began = if takes_permit a then now else a.began;
+    }) =
     record {
       came = fits.came;
       took = fits.took;
@@ -71,7 +75,7 @@ step st (Came bytes now) a b fits h =
     } in
     subst (Fits (continued st (Came bytes now))) (sym h.3) next
 step st Ended a b fits h =
-    let next : Fits st (record a { ended = true }) =
+    let next : Fits st (record a { ended = true; asked = false }) =
     record { came = fits.came; took = fits.took; unsent = fits.unsent; held_back = fits.held_back; one_stream = fits.one_stream; small = fits.small } in
     subst (Fits st) (sym h.1) next
 step st (Asked now) a b fits h =

@@ -3,9 +3,9 @@ use Rattle.std.proofs.Common.{◌≡◌, ◌≢◌, ◌<◌, ◌≤◌, ◌+◌,
 use Rattle.std.proofs.lemmas.Bool.Decides.{nat_tests}
 use Rattle.std.specs.Prelude.{slice_get, slice_set}
 use Rattle.std.proofs.lemmas.List.Sums.{sum_by-cons}
-use Rattle.std.proofs.lemmas.Option.{slice_get-get_or}
+use Rattle.std.proofs.lemmas.Option.{slice_get-get_or, slice_get_within}
 use Rattle.std.specs.List.{sum_by}
-use Rattle.connections.specs.Connections.{Change, ChangesAt, Connection, HasRoom, IsChange}
+use Rattle.connections.specs.Connections.{Change, ChangesAt, Connection, HasOne, HasRoom, IsChange}
 use Rattle.connections.specs.Made.{IsNoneAt}
 
 pub get_set_same : {X : Type 0} (xs : List X) (i : ℕ) (x y : X) → slice_get xs i ≡ Some x → slice_get (slice_set xs i y) i ≡ Some y
@@ -103,3 +103,23 @@ mapped_more f n xs now d y is less same =
     ∙ ap (λ t. slice_set t n (f (get_or now n d))) is
     ∙ mapped_suc f n xs (get_or now n d) (ap (λ t. slice_get t n) (sym is) ∙ slice_get-get_or now n d less)
     ∙ ap (λ k. mapped f k xs) (sym (add-one n))
+
+-- no slot below `i` has the property
+abbrev pub HasNoneBelow : (Connection → Type 0) → List Connection → ℕ → Type 0
+HasNoneBelow P table i = (k : ℕ) (c : Connection) → k < i → slice_get table k ≡ Some c → P c → ⊥
+
+pub none_below : (P : Connection → Type 0) (table : List Connection) → HasNoneBelow P table 0
+none_below P table k c less found h = omega arith
+
+pub none_more : (P : Connection → Type 0) (table : List Connection) (i : ℕ) → HasNoneBelow P table i → IsNoneAt i P table
+    → HasNoneBelow P table (i + 1)
+none_more P table i below here k c less found h = elim (eq_or_not k i) [
+  | inl same ↦ here c (ap (slice_get table) (sym same) ∙ found) h
+  | inr differ ↦ below k c (omega arith) found h
+]
+
+pub none_in_all : (P : Connection → Type 0) (table : List Connection) (i : ℕ) → HasNoneBelow P table i → length table ≤ i
+    → HasOne P table → ⊥
+none_in_all P table i below whole one =
+    let less = slice_get_within table one.0 one.1 one.2 in
+    below one.0 one.1 (omega arith) one.2 one.3

@@ -4,11 +4,11 @@
 -- last reply was taken, and is read from only while less than a request waits. Memory for a read is reserved before it,
 -- so no byte that came is lost. No byte of a reply is taken before the reply is committed and its whole line is in the
 -- log. A connection is closed only for a stated reason. A limit of time ends a connection only if its client was asked
--- after that time and sent or took nothing; the time for which reads were withheld counts. At most `MAX_LONG`
--- connections hold more than `MAX_SHORT` bytes of input, and no reply is made while more than `MAX_UNSENT` bytes of
--- replies and lines are unsent.
+-- after that time and sent or took nothing; the time for which a read was withheld does not count, nor any after its
+-- client ended its side. At most `MAX_LONG` connections hold more than `MAX_SHORT` bytes of input, and no reply is made
+-- while more than `MAX_UNSENT` bytes of replies and lines are unsent.
 use Rattle.std.specs.Prelude.{◌≡◌, ◌≤◌, ◌<◌, ◌+◌, ◌-◌, ◌/◌, ◌⊎◌, ℕ, Bool, true, false, List, [], ◌∷◌, ◌++◌}
-use Rattle.std.specs.Prelude.{Some, if◌then◌else◌, length, map, nat_lt, slice_get, slice_set}
+use Rattle.std.specs.Prelude.{Option, None, Some, if◌then◌else◌, length, map, nat_lt, slice_get, slice_set}
 use Rattle.std.specs.List.{count_by, sum_by}
 use Rattle.connections.specs.declared.TheConstants.{BYTES_PER_MILLI, CROWDED_PER_MILLI, MAX_READ}
 use Rattle.connections.specs.declared.TheConstants.{MAX_REQUEST, REQUEST_MILLIS, ROOM_MILLIS}
@@ -18,16 +18,25 @@ use Rattle.connections.specs.declared.slot.Reason.TheVariants as Reasons
 use Rattle.connections.specs.declared.slot.Stage.{Stage}
 use Rattle.connections.specs.declared.slot.Stage.TheVariants as Stages
 
--- A `Connection` is a slot of the table: whether it has a connection (`is_open`), whether its client will send no more
--- (`ended`), whether a reply that ends it was made (`closing`), how far its last reply has come (`stage`), the bytes
--- that came and are not answered (`input`), the bytes of its last reply that its writer has not taken (`output`), the
--- line that the log is to get for this reply (`line`), the number of bytes below which `input` is known to be less than
--- a request (`needed`), the number of bytes for which memory is reserved (`spare`), the time of the last byte in either
--- direction, or when the last reply was first offered if that is later (`since`), the time when the request under way
--- began (`began`), the number of bytes of the last reply in whole (`reply_size`), whether the last reply was offered to
--- its client (`offered`), and when first (`offered_at`); and whether the client, since it last sent or took a byte or
--- had a request answered, was asked and sent or took none (`asked`), and when last (`asked_at`). Times are in
--- milliseconds.
+-- A `Connection` is a slot of the table. Times are in milliseconds.
+-- - is_open: whether the slot has a connection.
+-- - ended: whether its client will send no more.
+-- - closing: whether a reply that ends it was made.
+-- - stage: how far its last reply has come.
+-- - input: the bytes that came and are not answered.
+-- - output: the bytes of its last reply that its writer has not taken.
+-- - line: the line that the log is to get for this reply.
+-- - needed: the number of bytes below which `input` is known to be less than a request.
+-- - spare: the number of bytes for which memory is reserved.
+-- - since: the time of the last byte in either direction, or of the first offer of the last reply, or of the permit to
+--   hold more than `MAX_SHORT` bytes, if that is later.
+-- - began: the time when the request under way began, or of that permit.
+-- - reply_size: the number of bytes of the last reply in whole.
+-- - offered: whether the last reply was offered to its client.
+-- - offered_at: when first.
+-- - asked: whether the client, since it last sent or took a byte, ended its side or had a request answered, was asked
+--   and sent or took none.
+-- - asked_at: when last.
 pub record Connection : Type 0 where
   pub is_open : Bool
   pub ended : Bool
@@ -81,13 +90,25 @@ abbrev pub start_of : List ℕ → ℕ → ℕ → ℕ
 start_of [] began now = now
 start_of (x ∷ input) began now = began
 
+-- `held c` is the number of bytes of `c` that wait for an answer, with those for which memory is reserved.
+abbrev pub held : Connection → ℕ
+held c = length c.input + c.spare
+
+-- `is_long c` is true if `c` holds more than `MAX_SHORT` bytes.
+abbrev pub is_long : Connection → Bool
+is_long c = nat_lt MAX_SHORT (held c)
+
+-- `takes_permit c` is true if `c` holds at most `MAX_SHORT` bytes, and more with memory for one more read.
+abbrev pub takes_permit : Connection → Bool
+takes_permit c = if is_long c then false else nat_lt MAX_SHORT (length c.input + MAX_READ)
+
 -- A `Change` is what happens to one connection: it is opened; memory is reserved for a read; bytes come; its client
 -- ends its side; the client is asked, and sends or takes none; the service finds less than a request, which needs so
 -- many bytes, or answers one; the log gets the line of the reply, whole or only a proper prefix of it; the writer takes
 -- bytes; the connection is closed.
 pub data Change : Type 0 where
   Opened : (now : ℕ) → Change
-  Reserved : Change
+  Reserved : (now : ℕ) → Change
   Came : (bytes : List ℕ) → (now : ℕ) → Change
   Ended : Change
   Asked : (now : ℕ) → Change
@@ -138,7 +159,7 @@ MayAsk c = MayRead c ⊎ MayOffer c
 pub record IsOver (c : Connection) : Type 0 where
   pub logged : c.stage ≡ Stages.Logged
   pub drained : c.output ≡ []
-  pub ended : (c.closing ≡ true) ⊎ ((c.ended ≡ true) × (length c.input < c.needed))
+  pub ended : (c.closing ≡ true) ⊎ ((c.ended ≡ true) × IsLacking c)
 
 -- `due c` is the time at which the request under way at `c` is to be whole: `REQUEST_MILLIS` after its first byte, and
 -- a millisecond later for each `BYTES_PER_MILLI` bytes beyond the first `MAX_READ`.
@@ -162,10 +183,14 @@ IsSlow least rate now c = (c.offered ≡ true) × (0 < length c.output) × (repl
 abbrev pub IsOverdue : ℕ → Connection → Type 0
 IsOverdue now c = IsLate now c ⊎ IsSlow REQUEST_MILLIS BYTES_PER_MILLI now c
 
--- `IsExpired idle now c` holds if there is a limit, `idle`; and no byte came or was taken for so long, or a request is
--- late, or too few bytes of a reply are taken.
-abbrev pub IsExpired : ℕ → ℕ → Connection → Type 0
-IsExpired idle now c = (0 < idle) × ((c.since + idle ≤ now) ⊎ IsOverdue now c)
+-- `IsSilent idle now c` holds if there is a limit of silence, `idle`, and no byte came or was taken for so long.
+abbrev pub IsSilent : Option ℕ → ℕ → Connection → Type 0
+IsSilent None now c = ⊥
+IsSilent (Some idle) now c = c.since + idle ≤ now
+
+-- `IsExpired idle now c` holds if `c` is silent for longer than the limit, or overdue, which needs no limit.
+abbrev pub IsExpired : Option ℕ → ℕ → Connection → Type 0
+IsExpired idle now c = IsSilent idle now c ⊎ IsOverdue now c
 
 -- `IsIdleFor millis now c` holds if neither a request nor a reply is under way at `c`, and for so long no byte came or
 -- was taken.
@@ -185,6 +210,7 @@ IsAwaited P c = (c.stage ≡ Stages.Logged) × (c.asked ≡ true) × P c.asked_a
 abbrev pub MayGo : Reason → Connection → Type 0
 MayGo Reasons.Over c = IsOver c
 MayGo Reasons.Broken c = MayAsk c
+MayGo Reasons.NoMemory c = MayRead c
 MayGo Reasons.Unlogged c = c.stage ≡ Stages.Unlogged
 MayGo Reasons.Uncommitted c = c.stage ≡ Stages.Uncommitted
 MayGo (Reasons.Expired idle) c = IsAwaited (IsExpired idle) c
@@ -194,7 +220,13 @@ MayGo Reasons.Crowded c = IsAwaited (IsSlow ROOM_MILLIS CROWDED_PER_MILLI) c
 -- `IsChange change a b` holds if the change may turn the connection `a` into `b`.
 abbrev pub IsChange : Change → Connection → Connection → Type 0
 IsChange (Opened now) a b = (a.is_open ≡ false) × (b ≡ fresh true now)
-IsChange Reserved a b = MayRead a × (b ≡ record a { spare = MAX_READ })
+IsChange (Reserved now) a b =
+    MayRead a
+    × (b ≡ record a {
+      spare = MAX_READ;
+      since = if takes_permit a then now else a.since;
+      began = if takes_permit a then now else a.began;
+    })
 IsChange (Came bytes now) a b =
     MayRead a × (0 < length bytes) × (length bytes ≤ a.spare)
     × (b ≡ record a {
@@ -204,7 +236,7 @@ IsChange (Came bytes now) a b =
       began = start_of a.input a.began now;
       asked = false;
     })
-IsChange Ended a b = MayRead a × (b ≡ record a { ended = true })
+IsChange Ended a b = MayRead a × (b ≡ record a { ended = true; asked = false })
 IsChange (Asked now) a b =
     MayAsk a
     × (b ≡ record a {
@@ -246,14 +278,6 @@ IsChange (Took bytes now) a b =
     })
 IsChange (Gone why) a b = (a.is_open ≡ true) × MayGo why a × (b ≡ fresh false 0)
 
--- `held c` is the number of bytes of `c` that wait for an answer, with those for which memory is reserved.
-abbrev pub held : Connection → ℕ
-held c = length c.input + c.spare
-
--- `is_long c` is true if `c` holds more than `MAX_SHORT` bytes.
-abbrev pub is_long : Connection → Bool
-is_long c = nat_lt MAX_SHORT (held c)
-
 -- `longs table` is the number of connections of the table that hold more than `MAX_SHORT` bytes.
 abbrev pub longs : List Connection → ℕ
 longs table = count_by is_long table
@@ -267,24 +291,42 @@ unsent_of c = length c.output + length c.line
 abbrev pub unsent : List Connection → ℕ
 unsent table = sum_by unsent_of table
 
--- `IsCalledFor why table` holds if the table gives the reason `why` to close a connection: too many bytes are unsent if
--- it is that; each other reason is the connection's own.
+-- `HasOne P table` holds if a slot of the table has the property `P`.
+abbrev pub HasOne : (Connection → Type 0) → List Connection → Type 0
+HasOne P table = (at : ℕ) × (c : Connection) × (slice_get table at ≡ Some c) × P c
+
+-- `AwaitsAnswer c` holds if `c` may have a request answered, and is not known to have less than one.
+abbrev pub AwaitsAnswer : Connection → Type 0
+AwaitsAnswer c = MayAnswer c × (IsLacking c → ⊥)
+
+-- `IsCrowded table` holds if too many bytes are unsent for one more reply, and a connection awaits an answer.
+abbrev pub IsCrowded : List Connection → Type 0
+IsCrowded table = (MAX_UNSENT < unsent table) × HasOne AwaitsAnswer table
+
+-- `IsCalledFor why table` holds if the table gives the reason `why` to close a connection: it is crowded, if it is
+-- that; each other reason is the connection's own.
 abbrev pub IsCalledFor : Reason → List Connection → Type 0
 IsCalledFor Reasons.Over table = Unit {0}
 IsCalledFor Reasons.Broken table = Unit {0}
+IsCalledFor Reasons.NoMemory table = Unit {0}
 IsCalledFor Reasons.Unlogged table = Unit {0}
 IsCalledFor Reasons.Uncommitted table = Unit {0}
 IsCalledFor (Reasons.Expired idle) table = Unit {0}
 IsCalledFor Reasons.MadeRoom table = Unit {0}
-IsCalledFor Reasons.Crowded table = MAX_UNSENT < unsent table
+IsCalledFor Reasons.Crowded table = IsCrowded table
 
--- `HasRoom change c table` holds if the table has room for the change of its connection `c`. Memory for a read is
--- reserved if `c` then holds at most `MAX_SHORT` bytes, or holds more already, or fewer than `MAX_LONG` others do. A
--- request is answered if at most `MAX_UNSENT` bytes are unsent. A connection is closed if the table calls for it.
+-- `HasReadRoom c table` holds if the table has room for a read of its connection `c`: `c` then holds at most
+-- `MAX_SHORT` bytes, or holds more already, or fewer than `MAX_LONG` others do.
+abbrev pub HasReadRoom : Connection → List Connection → Type 0
+HasReadRoom c table =
+    (length c.input + MAX_READ ≤ MAX_SHORT) ⊎ (is_long c ≡ true) ⊎ (longs table < MAX_LONG)
+
+-- `HasRoom change c table` holds if the table has room for the change of its connection `c`: for a read, if memory is
+-- reserved for one. A request is answered if at most `MAX_UNSENT` bytes are unsent. A connection is closed if the table
+-- calls for it.
 abbrev pub HasRoom : Change → Connection → List Connection → Type 0
 HasRoom (Opened now) c table = Unit {0}
-HasRoom Reserved c table =
-    (length c.input + MAX_READ ≤ MAX_SHORT) ⊎ (is_long c ≡ true) ⊎ (longs table < MAX_LONG)
+HasRoom (Reserved now) c table = HasReadRoom c table
 HasRoom (Came bytes now) c table = Unit {0}
 HasRoom Ended c table = Unit {0}
 HasRoom (Asked now) c table = Unit {0}

@@ -2,8 +2,8 @@
 -- Source: RFC 9112, sections 9.3 and 9.5 (a server may close an idle connection, and one that times out).
 -- Rules of this product: if no slot is free, the connection idle longest makes room, after `ROOM_MILLIS` at the
 -- earliest; if none is idle so long, the one whose request is late longest; if none is late, the one that is longest
--- too slow in taking its reply. If too many bytes are unsent, the slowest reader may be closed, after `ROOM_MILLIS` at
--- the earliest, if it takes fewer than `CROWDED_PER_MILLI` bytes a millisecond.
+-- too slow in taking its reply. If the table is crowded, the reader that is longest too slow may be closed, after
+-- `ROOM_MILLIS` at the earliest, if it takes fewer than `CROWDED_PER_MILLI` bytes a millisecond.
 use Rattle.std.specs.Prelude.{◌≡◌, ◌≤◌, ◌<◌, ◌+◌, ◌⊎◌, ℕ, true, false, List, Option, Some, None, slice_get}
 use Rattle.connections.specs.Connections.{Connection, Entry, Gone, IsCalledFor, IsExpired}
 use Rattle.connections.specs.Connections.{IsIdleFor, IsLate, IsSlow, MayMakeRoom}

@@ -1,7 +1,7 @@
--- Defines how a connection ends whose last reply was lost.
--- Source: RFC 9112, section 9.6 (a server that cannot reply closes the connection).
--- Rules of this product: if the commit of a reply fails, or the log gets only a part of its line, the connection is
--- closed for that reason, and nothing else happens to it before.
+-- Defines what may happen to a connection whose last reply was lost.
+-- Source: RFC 9112, section 9.6 (tear-down).
+-- Rules of this product: if the commit of a reply fails, or the log gets only a part of its line, nothing happens to
+-- the connection but that it is closed for that reason.
 use Rattle.std.specs.Prelude.{◌≡◌, true}
 use Rattle.connections.specs.Connections.{Change, Connection, Gone, IsChange}
 use Rattle.connections.specs.declared.slot.Reason.TheVariants as Reasons

@@ -1,8 +1,9 @@
 -- Defines what one call at a slot of the table does: one change, or none if the connection is not ready for it.
 -- Source: RFC 9112, section 9.6 (tear-down).
 -- Rules of this product: a call for which the connection is not ready has no effect.
-use Rattle.std.specs.Prelude.{◌≡◌, ◌≤◌, ◌<◌, ℕ, Bool, true, false, List, length, take, Some, slice_get}
-use Rattle.connections.specs.Connections.{Change, ChangesAt, Connection, HasRoom, IsCalledFor, MayGo, MayRead, Reserved}
+use Rattle.std.specs.Prelude.{◌≡◌, ◌≤◌, ◌<◌, ◌⊎◌, ℕ, Bool, true, false, List, length, take, Some, slice_get}
+use Rattle.connections.specs.Connections.{Change, ChangesAt, Connection, HasOne, HasReadRoom, IsCalledFor}
+use Rattle.connections.specs.Connections.{MayGo, MayOffer, MayRead}
 use Rattle.connections.specs.declared.slot.Reason.{Reason}
 use Rattle.connections.specs.declared.slot.Stage.TheVariants as Stages
 
@@ -42,4 +43,13 @@ MayReadBytes bytes c = MayRead c × (0 < length bytes) × (length bytes ≤ c.sp
 
 -- `MayReserve table c` holds if the connection `c` of the table may be read from, and the table has room for this.
 abbrev pub MayReserve : List Connection → Connection → Type 0
-MayReserve table c = MayRead c × HasRoom Reserved c table
+MayReserve table c = MayRead c × HasReadRoom c table
+
+-- `IsUnasked table c` holds if the client of the connection `c` of the table may be asked now, and was not since it
+-- last sent or took a byte.
+abbrev pub IsUnasked : List Connection → Connection → Type 0
+IsUnasked table c = (MayReserve table c ⊎ MayOffer c) × (c.asked ≡ false)
+
+-- `IsOneUnasked table` holds if there is such a connection.
+abbrev pub IsOneUnasked : List Connection → Type 0
+IsOneUnasked table = HasOne (IsUnasked table) table

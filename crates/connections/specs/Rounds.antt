@@ -2,8 +2,8 @@
 -- then the replies are committed, and the log gets their lines.
 -- Source: RFC 9112, section 9.3 (one after another, in order).
 -- Rules of this product: one request of a connection in a round, however many it has sent; one commit in a round. A
--- round stops at the slot at which more than `MAX_UNSENT` bytes of replies and lines are unsent. The next round begins
--- there, so no slot has a second turn before each other one has had its first.
+-- round stops at the slot at which more than `MAX_UNSENT` bytes of replies and lines are unsent. If the next round
+-- begins there, as `next_slot` says, no slot has a second turn before each other one has had its first.
 use Rattle.std.specs.Prelude.{◌≡◌, ◌≤◌, ◌<◌, ◌+◌, ◌==◌, ◌⊎◌, ℕ, List, [], ◌∷◌, ◌++◌, if◌then◌else◌}
 use Rattle.std.specs.Prelude.{Some, length, nat_lt, slice_get}
 use Rattle.connections.specs.Connections.{Change, Connection, Entry, MayAnswer, unsent}
@@ -20,7 +20,7 @@ use Rattle.connections.specs.declared.table.Outcome.TheVariants as did
 -- `IsATurn change` holds if the change is an answer, or the finding that there is less than a request.
 abbrev pub IsATurn : Change → Type 0
 IsATurn (Opened now) = ⊥
-IsATurn Reserved = ⊥
+IsATurn (Reserved now) = ⊥
 IsATurn (Came bytes now) = ⊥
 IsATurn Ended = ⊥
 IsATurn (Asked now) = ⊥
@@ -34,7 +34,7 @@ IsATurn (Gone why) = ⊥
 -- `IsALack change` holds if the change is the finding that there is less than a request.
 abbrev pub IsALack : Change → Type 0
 IsALack (Opened now) = ⊥
-IsALack Reserved = ⊥
+IsALack (Reserved now) = ⊥
 IsALack (Came bytes now) = ⊥
 IsALack Ended = ⊥
 IsALack (Asked now) = ⊥
@@ -48,7 +48,7 @@ IsALack (Gone why) = ⊥
 -- `IsALine change` holds if the change is a line of the log, whole or a proper prefix.
 abbrev pub IsALine : Change → Type 0
 IsALine (Opened now) = ⊥
-IsALine Reserved = ⊥
+IsALine (Reserved now) = ⊥
 IsALine (Came bytes now) = ⊥
 IsALine Ended = ⊥
 IsALine (Asked now) = ⊥
@@ -69,7 +69,7 @@ AreAll P (Uncommitted ∷ entries) = ⊥
 -- `answers_in change` is 1 if the change is an answer, else 0.
 abbrev pub answers_in : Change → ℕ
 answers_in (Opened now) = 0
-answers_in Reserved = 0
+answers_in (Reserved now) = 0
 answers_in (Came bytes now) = 0
 answers_in Ended = 0
 answers_in (Asked now) = 0
@@ -90,7 +90,7 @@ answers_at at (Uncommitted ∷ entries) = answers_at at entries
 -- `reply_in change` is the number of bytes of the reply and of its line if the change is an answer, else 0.
 abbrev pub reply_in : Change → ℕ
 reply_in (Opened now) = 0
-reply_in Reserved = 0
+reply_in (Reserved now) = 0
 reply_in (Came bytes now) = 0
 reply_in Ended = 0
 reply_in (Asked now) = 0
@@ -120,10 +120,10 @@ IsOrdered did.Answered entries =
     (turns lines : List Entry) × AreTurns turns × AreAll IsALine lines × (entries ≡ turns ++ Committed ∷ lines)
 IsOrdered did.Uncommitted entries = (turns : List Entry) × AreTurns turns × (entries ≡ turns ++ Uncommitted ∷ [])
 
--- `next_slot end places` is the slot at which the round after one that ended at `end` is to begin, in a table of
--- `places` slots.
+-- `next_slot end slots` is the slot at which the round after one that ended at `end` is to begin, in a table of `slots`
+-- slots.
 abbrev pub next_slot : ℕ → ℕ → ℕ
-next_slot end places = if nat_lt end places then end else 0
+next_slot end slots = if nat_lt end slots then end else 0
 
 -- `IsSettledAt s` holds if a reply at the stage `s` waits neither for a commit nor for the log.
 abbrev pub IsSettledAt : Stage → Type 0

@@ -24,7 +24,7 @@ module _ (is_unfinished : List ℕ → Type 0) where
   -- `IsCause event table entries new` holds if the event makes these entries, from the table `table` to `new`.
   abbrev pub IsCause : Event → List Connection → List Entry → List Connection → Type 0
   IsCause (Accepted at now) table entries new = IsOneOrNone IsFree table at (Opened now) entries
-  IsCause (Readied at) table entries new = IsOneOrNone (MayReserve table) table at Reserved entries
+  IsCause (Readied at now) table entries new = IsOneOrNone (MayReserve table) table at (Reserved now) entries
   IsCause (Arrived at bytes now) table entries new =
       IsOneOrNone (MayReadBytes bytes.items) table at (Came bytes.items now) entries
   IsCause (Finished at) table entries new = IsOneOrNone MayRead table at Ended entries

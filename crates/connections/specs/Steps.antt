@@ -27,7 +27,7 @@ module _ {S : Type 0} (answers : Answering S) (lines : LineRelation) (commits co
   -- the change is one, else it stays.
   abbrev pub StepsAt : S → Change → S → Type 0
   StepsAt old (Opened now) new = new ≡ old
-  StepsAt old Reserved new = new ≡ old
+  StepsAt old (Reserved now) new = new ≡ old
   StepsAt old (Came bytes now) new = new ≡ old
   StepsAt old Ended new = new ≡ old
   StepsAt old (Asked now) new = new ≡ old
@@ -69,7 +69,7 @@ module _ {L : Type 0} (writes cuts : L → List ℕ → L → Type 0) where
   -- prefix of one if the change is that, else it stays.
   abbrev pub NotesAt : L → Change → L → Type 0
   NotesAt old (Opened now) new = new ≡ old
-  NotesAt old Reserved new = new ≡ old
+  NotesAt old (Reserved now) new = new ≡ old
   NotesAt old (Came bytes now) new = new ≡ old
   NotesAt old Ended new = new ≡ old
   NotesAt old (Asked now) new = new ≡ old
@@ -104,7 +104,7 @@ NotesNext at line lines more = lines ≡ record { at = at; text = line } ∷ mor
 -- slot `at`: an answer adds its line; a whole line, or a proper prefix of it, is the next one.
 abbrev pub IsLoggedAt : ℕ → Change → List Line → List Line → Type 0
 IsLoggedAt at (Opened now) lines more = more ≡ lines
-IsLoggedAt at Reserved lines more = more ≡ lines
+IsLoggedAt at (Reserved now) lines more = more ≡ lines
 IsLoggedAt at (Came bytes now) lines more = more ≡ lines
 IsLoggedAt at Ended lines more = more ≡ lines
 IsLoggedAt at (Asked now) lines more = more ≡ lines

@@ -30,7 +30,7 @@ no_story = record { came = []; turns = []; took = [] }
 -- `continued st change` is the story `st` followed by a change of the same connection.
 abbrev pub continued : Story → Change → Story
 continued st (Opened now) = no_story
-continued st Reserved = st
+continued st (Reserved now) = st
 continued st (Came bytes now) = record st { came = st.came ++ bytes }
 continued st Ended = st
 continued st (Asked now) = st

@@ -18,8 +18,8 @@ use std::alloc::AllocError;
 pub enum Event {
     /// A connection is accepted, and gets this slot, at this time.
     Accepted(usize, u64),
-    /// The connection is to be read from.
-    Readied(usize),
+    /// The connection is to be read from, at this time.
+    Readied(usize, u64),
     /// These bytes came, at this time.
     Arrived(usize, Vec<u8>, u64),
     /// The client will send no more.
@@ -51,7 +51,7 @@ pub fn handle<S: Service, L: Log>(
     ensures ok { OnOk result (IsHandled (Steps S.answers S.lines S.commits S.commit_fails) (Notes L.writes L.cuts)
         S.is_unfinished event.now slots.old service.old log.old slots.new service.new log.new) }
     ensures err { OnErr result ((slots.new ≡ slots.old) × (service.new ≡ service.old) × (log.new ≡ log.old)) }
-    ensures reading { OnErr result ((at : ℕ) × (event.now ≡ Readied at)) }
+    ensures reading { OnErr result ((at now : ℕ) × (event.now ≡ Readied at now)) }
     ensures ready { AreReady S.is_unfinished slots.new }
 {
     tables_are_ready::<S>();
@@ -59,8 +59,8 @@ pub fn handle<S: Service, L: Log>(
         Event::Accepted(at, now) => {
             open(slots, *at, *now);
         }
-        Event::Readied(at) => {
-            reserve(slots, *at)?;
+        Event::Readied(at, now) => {
+            reserve(slots, *at, *now)?;
         }
         Event::Arrived(at, bytes, now) => {
             arrive(slots, *at, bytes.as_slice(), *now);
@@ -101,7 +101,7 @@ pub fn run<S: Service, L: Log>(
     requires { AreReady S.is_unfinished slots.old }
     ensures ok { OnOk result (IsServed (Steps S.answers S.lines S.commits S.commit_fails) (Notes L.writes L.cuts)
         S.is_unfinished events.now slots.old service.old log.old slots.new service.new log.new) }
-    ensures err { OnErr result ((front rest : List Event) × (at : ℕ) × (events.now ≡ front ++ Readied at ∷ rest)
+    ensures err { OnErr result ((front rest : List Event) × (at now : ℕ) × (events.now ≡ front ++ Readied at now ∷ rest)
         × IsServed (Steps S.answers S.lines S.commits S.commit_fails) (Notes L.writes L.cuts)
         S.is_unfinished front slots.old service.old log.old slots.new service.new log.new) }
     ensures ready { AreReady S.is_unfinished slots.new }

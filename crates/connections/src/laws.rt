@@ -36,8 +36,8 @@ pub fn tables_are_bounded()
     ensures { TablesAreBounded }
 {}
 
-/// Proves that a connection whose last reply was lost, since its commit failed or its line was cut off, is closed for
-/// that reason, and nothing else happens to it before. No-op.
+/// Proves that nothing happens to a connection whose last reply was lost, since its commit failed or its line was cut
+/// off, but that it is closed for that reason. No-op.
 pub fn lost_replies_end()
     ensures { LostRepliesEnd }
 {}

@@ -37,12 +37,11 @@ pub const REQUEST_MILLIS: u64 = 10_000;
 /// give it a millisecond more.
 pub const BYTES_PER_MILLI: usize = 4;
 
-/// The least rate of a reply while more than [`MAX_UNSENT`] bytes are unsent: so many bytes that were taken give it a
-/// millisecond more.
+/// The least rate of a reply while the table is crowded: so many bytes that were taken give it a millisecond more.
 pub const CROWDED_PER_MILLI: usize = 1_024;
 
-/// The milliseconds after which an idle connection may make room for another, and a slow reader is closed if too many
-/// bytes are unsent.
+/// The milliseconds after which an idle connection may make room for another, and a slow reader is closed if the table
+/// is crowded.
 pub const ROOM_MILLIS: u64 = 1_000;
 
 /// The most milliseconds of a wait.

@@ -8,8 +8,8 @@ use crate::slot::{Claim, Limit, Reason, Slot};
 use crate::table::close;
 use crate::times::sooner;
 
-/// Closes each connection that may be closed for the reason `why`; with [`Reason::Expired`] those over their limits,
-/// with [`Reason::Crowded`] slow ones, from the lowest slot on, until no more than `MAX_UNSENT` bytes are unsent.
+/// Closes each connection that may be closed for the reason `why` while the table gives this reason: with
+/// [`Reason::Expired`] those over their limits, with [`Reason::Crowded`] slow readers until the table is not crowded.
 pub fn close_all(slots: &mut [Slot], why: Reason)
     ensures { (entries : List Entry) × AreChanges entries slots.old slots.new
         × AreClosed why slots.old entries slots.new }
@@ -56,8 +56,8 @@ fn latest(slots: &[Slot]) -> Option<usize>
     }
 }
 
-/// Returns the slot of the slowest reader, which may be closed as [`Reason::Crowded`] if more than `MAX_UNSENT` bytes
-/// are unsent; `None` if no reader is too slow.
+/// Returns the slot of the reader that is longest too slow for a crowded table, which may be closed as
+/// [`Reason::Crowded`] if the table is crowded; `None` if no reader is too slow.
 pub fn slowest(slots: &[Slot]) -> Option<usize>
     ensures { IsEarliest Claim.Crowding slots.now result }
 {

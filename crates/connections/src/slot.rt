@@ -4,9 +4,11 @@ ghost use Rattle.std.specs.Prelude.{length, take, drop, vec_len};
 ghost use Rattle.std.specs.Prelude.{IfOk, IsTrue, IsFalse, MatchOption, OnOk, OnErr};
 ghost use Rattle.std.specs.Vec.{vec_capacity};
 ghost use Rattle.connections.specs.Connections.{Asked, Came, CutOff, Ended, Logged, Opened, Reserved, Took};
-ghost use Rattle.connections.specs.Connections.{IsChange, IsExpired, IsIdleFor, IsLacking, IsLate, IsOver};
-ghost use Rattle.connections.specs.Connections.{IsOverdue, IsSlow, MayAnswer, MayAsk, MayMakeRoom, MayOffer, MayRead};
-ghost use Rattle.connections.specs.Connections.{committed, fresh, is_long, reply_due, uncommitted, unsent_of};
+ghost use Rattle.connections.specs.Connections.{AwaitsAnswer, IsChange, IsExpired, IsIdleFor, IsLacking};
+ghost use Rattle.connections.specs.Connections.{IsLate, IsOver, IsOverdue, IsSilent, IsSlow};
+ghost use Rattle.connections.specs.Connections.{MayAnswer, MayAsk, MayMakeRoom, MayOffer, MayRead};
+ghost use Rattle.connections.specs.Connections.{committed, fresh, is_long, reply_due, takes_permit};
+ghost use Rattle.connections.specs.Connections.{uncommitted, unsent_of};
 ghost use Rattle.connections.specs.Framing.{StaysUnfinished};
 ghost use Rattle.connections.specs.Limits.{HasClaim, IsDue, IsFirstAfter, claimed};
 ghost use Rattle.connections.specs.Made.{MayClose, MayReadBytes, MayTake, MayTakeSome};
@@ -44,28 +46,32 @@ pub enum Reason {
     Over,
     /// A read or a write failed, and such a call may be made.
     Broken,
+    /// Memory for a read was refused, and it may be read from.
+    NoMemory,
     /// The log got only a proper prefix of the line of its last reply.
     Unlogged,
     /// The commit of its last reply failed.
     Uncommitted,
-    /// Its client was asked, and is over a limit of so many milliseconds: for so long no byte came or was taken; or its
+    /// Its client was asked, and for so many milliseconds no byte came or was taken, if there is such a limit; or its
     /// request is late; or too few bytes of its reply are taken.
-    Expired(u64),
+    Expired(Option<u64>),
     /// Its client was asked, and it is idle, or its request is late, or too few bytes of its reply are taken; and
     /// another connection needs its slot.
     MadeRoom,
-    /// Its client was asked, and takes its reply too slowly while more than `MAX_UNSENT` bytes are unsent.
+    /// Its client was asked, and takes its reply too slowly while the table is crowded: more than `MAX_UNSENT` bytes
+    /// are unsent, and another connection awaits its answer.
     Crowded,
 }
 
 /// A limit of time.
 #[derive(Clone, Copy)]
 pub enum Limit {
-    /// Connections are closed as [`Reason::Expired`], after so many milliseconds without a byte.
-    Expiry(u64),
+    /// Connections are closed as [`Reason::Expired`], after so many milliseconds without a byte, if there is such a
+    /// limit.
+    Expiry(Option<u64>),
     /// Another connection needs a slot: one is closed as [`Reason::MadeRoom`].
     Room,
-    /// More than `MAX_UNSENT` bytes are unsent: one is closed as [`Reason::Crowded`].
+    /// The table is crowded: one is closed as [`Reason::Crowded`].
     Crowd,
 }
 
@@ -78,7 +84,7 @@ pub enum Claim {
     Late,
     /// Too few bytes of its reply are taken.
     Slow,
-    /// Too few bytes of its reply are taken for a table with more than `MAX_UNSENT` unsent bytes.
+    /// Too few bytes of its reply are taken for a crowded table.
     Crowding,
 }
 
@@ -104,9 +110,10 @@ pub struct Slot {
     needed: usize,
     // The number of bytes for which `input` has memory.
     spare: usize,
-    // The time of the last byte in either direction, or of the first offer of the last reply if that is later.
+    // The time of the last byte in either direction, or of the first offer of the last reply, or of the permit to hold
+    // more than `MAX_SHORT` bytes, if that is later.
     since: u64,
-    // The time when the request under way began.
+    // The time when the request under way began, or of that permit.
     began: u64,
     // The number of bytes of the last reply in whole.
     reply_size: usize,
@@ -271,6 +278,17 @@ impl Slot {
         self.is_drained()
     }
 
+    /// Returns whether a request may be answered, and the bytes that wait are not known to be less than one.
+    pub fn awaits_answer(&self) -> bool
+        ensures yes { IsTrue result → AwaitsAnswer self.now }
+        ensures no { IsFalse result → AwaitsAnswer self.now → ⊥ }
+    {
+        if !self.may_answer() {
+            return false;
+        }
+        !self.is_lacking()
+    }
+
     /// Returns whether bytes may be read.
     pub fn may_read(&self) -> bool
         ensures may { IsTrue result → MayRead self.now }
@@ -313,13 +331,13 @@ impl Slot {
 
     /// Returns whether the client will send no more, and less than a request is left.
     fn is_cut_short(&self) -> bool
-        ensures yes { IsTrue result → (self.now.ended ≡ true) × (length self.now.input < self.now.needed) }
-        ensures no { IsFalse result → (self.now.ended ≡ true) × (length self.now.input < self.now.needed) → ⊥ }
+        ensures yes { IsTrue result → (self.now.ended ≡ true) × IsLacking self.now }
+        ensures no { IsFalse result → (self.now.ended ≡ true) × IsLacking self.now → ⊥ }
     {
         if !self.ended {
             return false;
         }
-        self.lacks_bytes()
+        self.is_lacking()
     }
 
     /// Returns whether there are fewer bytes of input than a request is known to need.
@@ -341,6 +359,7 @@ impl Slot {
         match why {
             Reason::Over => self.is_over(),
             Reason::Broken => self.may_ask(),
+            Reason::NoMemory => self.may_read(),
             Reason::Unlogged => self.is_unlogged(),
             Reason::Uncommitted => self.is_uncommitted(),
             Reason::Expired(idle) => self.is_awaited() && self.is_expired(idle, self.asked_at),
@@ -362,8 +381,19 @@ impl Slot {
         self.is_logged()
     }
 
+    /// Returns whether at the time `now` no byte came or was taken for `idle` milliseconds, if there is such a limit.
+    fn is_silent(&self, idle: Option<u64>, now: u64) -> bool
+        ensures yes { IsTrue result → IsSilent idle now self.now }
+        ensures no { IsFalse result → IsSilent idle now self.now → ⊥ }
+    {
+        match idle {
+            None => false,
+            Some(millis) => self.is_silent_for(millis, now),
+        }
+    }
+
     /// Returns whether at the time `now` no byte came or was taken for `millis` milliseconds.
-    fn is_silent(&self, millis: u64, now: u64) -> bool
+    fn is_silent_for(&self, millis: u64, now: u64) -> bool
         ensures yes { IsTrue result → self.now.since + millis ≤ now }
         ensures no { IsFalse result → self.now.since + millis ≤ now → ⊥ }
     {
@@ -489,14 +519,22 @@ impl Slot {
         Some(until(self.since, ROOM_MILLIS, now))
     }
 
-    /// Returns the milliseconds from `now` until the connection is expired, with a limit of `idle` milliseconds.
-    fn wait_expired(&self, idle: u64, now: u64) -> Option<u64>
+    /// Returns the milliseconds from `now` until no byte came or was taken for `idle` milliseconds, if there is such a
+    /// limit.
+    fn wait_silent(&self, idle: Option<u64>, now: u64) -> Option<u64>
+        ensures { IsFirstAfter now (λ t. IsSilent idle t self.now) result }
+    {
+        match idle {
+            None => None,
+            Some(millis) => Some(until(self.since, millis, now)),
+        }
+    }
+
+    /// Returns the milliseconds from `now` until the connection is expired, with the limit of silence `idle`.
+    fn wait_expired(&self, idle: Option<u64>, now: u64) -> Option<u64>
         ensures { IsFirstAfter now (λ t. IsExpired idle t self.now) result }
     {
-        if idle == 0 {
-            return None;
-        }
-        sooner(Some(until(self.since, idle, now)), self.wait_overdue(now))
+        sooner(self.wait_silent(idle, now), self.wait_overdue(now))
     }
 
     /// Returns the milliseconds from `now` until the connection may make room for another.
@@ -570,13 +608,13 @@ impl Slot {
         Some(self.offered_at + least + self.earned(rate))
     }
 
-    /// Returns whether the connection is over a limit of `idle` milliseconds at the time `now`: for so long no byte
-    /// came or was taken, or it is overdue. 0 is no limit.
-    fn is_expired(&self, idle: u64, now: u64) -> bool
+    /// Returns whether at the time `now` no byte came or was taken for `idle` milliseconds, if there is such a limit,
+    /// or the connection is overdue.
+    fn is_expired(&self, idle: Option<u64>, now: u64) -> bool
         ensures yes { IsTrue result → IsExpired idle now self.now }
         ensures no { IsFalse result → IsExpired idle now self.now → ⊥ }
     {
-        idle > 0 && (self.is_silent(idle, now) || self.is_overdue(now))
+        self.is_silent(idle, now) || self.is_overdue(now)
     }
 
     /// Returns whether nothing is under way, and at the time `now` no byte came or was taken for `millis` milliseconds.
@@ -587,7 +625,7 @@ impl Slot {
         if !self.has_nothing() {
             return false;
         }
-        self.is_silent(millis, now)
+        self.is_silent_for(millis, now)
     }
 
     /// Returns whether neither a request nor a reply is under way.
@@ -636,14 +674,15 @@ impl Slot {
         self.spare
     }
 
-    /// Reserves memory for one read.
+    /// Reserves memory for one read at the time `now`. If by this read the connection comes to hold more than
+    /// `MAX_SHORT` bytes, its times begin at `now`, since the read may have been withheld before.
     ///
     /// # Errors
     ///
     /// - `AllocError`: an allocation failed; the connection is unchanged.
-    pub fn reserve(&mut self) -> Result<(), AllocError>
+    pub fn reserve(&mut self, now: u64) -> Result<(), AllocError>
         requires { MayRead self.old }
-        ensures ok { OnOk result (IsChange Reserved self.old self.new) }
+        ensures ok { OnOk result (IsChange (Reserved now) self.old self.new) }
         ensures err { OnErr result (self.new ≡ self.old) }
     {
         if self.done > 0 {
@@ -652,8 +691,22 @@ impl Slot {
         }
         let more = self.missing();
         self.input.reserve(more.saturating_add(MAX_READ))?;
+        if self.takes_permit() {
+            self.since = now;
+            self.began = now;
+        }
         self.spare = MAX_READ;
         Ok(())
+    }
+
+    /// Returns whether the connection holds at most `MAX_SHORT` bytes, and more with memory for one more read.
+    fn takes_permit(&self) -> bool
+        ensures { result ≡ takes_permit self.now }
+    {
+        if self.is_long() {
+            return false;
+        }
+        !self.stays_short()
     }
 
     /// Returns how many bytes are missing of a long request, if its size is known, so that it is allocated once.
@@ -762,6 +815,15 @@ impl Slot {
         ensures { IsChange Ended self.old self.new }
     {
         self.ended = true;
+        self.asked = false;
+    }
+
+    /// Returns whether the client was asked since it last sent or took a byte, ended its side or had a request
+    /// answered.
+    pub fn is_asked(&self) -> bool
+        ensures { result ≡ self.now.asked }
+    {
+        self.asked
     }
 
     /// Returns whether the client may be asked: to send more, or to take more of a reply.
@@ -773,7 +835,7 @@ impl Slot {
     }
 
     /// Returns whether a reply is under way that may go out.
-    fn may_offer(&self) -> bool
+    pub fn may_offer(&self) -> bool
         ensures may { IsTrue result → MayOffer self.now }
         ensures may_not { IsFalse result → MayOffer self.now → ⊥ }
     {

@@ -2,10 +2,11 @@
 ghost use Rattle.std.specs.Prelude.{◌≡◌, ◌≤◌, ◌<◌, ◌↔◌, ℕ, Bool, List, [], length, map, take, Some, slice_get};
 ghost use Rattle.std.specs.Prelude.{IfOk, IsTrue, IsFalse, OnErr};
 ghost use Rattle.connections.specs.Connections.{Answered, Asked, Came, Ended, Gone, Opened, Reserved, Took};
-ghost use Rattle.connections.specs.Connections.{AreChanges, ChangesAt, Connection, Entry, HasRoom, IsCalledFor};
-ghost use Rattle.connections.specs.Connections.{MayAsk, MayRead};
+ghost use Rattle.connections.specs.Connections.{AreChanges, AwaitsAnswer, ChangesAt, Connection, Entry};
+ghost use Rattle.connections.specs.Connections.{HasOne, IsCalledFor, IsCrowded, MayAsk, MayRead};
 ghost use Rattle.connections.specs.Connections.{committed, is_long, longs, uncommitted, unsent};
-ghost use Rattle.connections.specs.Made.{IsFree, IsMade, IsNoneAt, MayEnd, MayReadBytes, MayReserve, MayTakeSome};
+ghost use Rattle.connections.specs.Made.{IsFree, IsMade, IsNoneAt, IsOneUnasked, IsUnasked};
+ghost use Rattle.connections.specs.Made.{MayEnd, MayReadBytes, MayReserve, MayTakeSome};
 ghost use Rattle.connections.specs.Rounds.{AreAll, AreLacking, AreNeeded, AreReady};
 ghost use Rattle.connections.specs.Rounds.{AreSettled, IsALack, IsALine, IsATurn};
 ghost use Rattle.connections.specs.Rounds.{IsOrdered, IsQuiet, IsRound, next_slot};
@@ -58,17 +59,17 @@ struct Turns {
     end: usize,
 }
 
-/// Creates a table of `places` free slots.
+/// Creates a table of `count` free slots.
 ///
 /// # Errors
 ///
 /// - `AllocError`: an allocation failed.
-pub fn new_table(alloc: Global, places: usize) -> Result<Vec<Slot>, AllocError>
+pub fn new_table(alloc: Global, count: usize) -> Result<Vec<Slot>, AllocError>
     ensures free { IfOk result (λ table. AreFree table.items) }
-    ensures places { IfOk result (λ table. length table.items ≡ places) }
+    ensures count { IfOk result (λ table. length table.items ≡ count) }
 {
     let mut slots = Vec::new(alloc);
-    for _ in 0..places {
+    for _ in 0..count {
         let slot = Slot::new(alloc)?;
         match slots.push(slot) {
             Ok(()) => {}
@@ -93,14 +94,14 @@ pub fn open(slots: &mut [Slot], at: usize, now: u64) -> bool
     true
 }
 
-/// Reserves memory for one read at the slot `at`; returns whether its connection may be read from, and the table has
-/// room for this: at most `MAX_LONG` connections hold more than `MAX_SHORT` bytes.
+/// Reserves memory for one read at the slot `at`, at the time `now`; returns whether its connection may be read from,
+/// and the table has room for this: at most `MAX_LONG` connections hold more than `MAX_SHORT` bytes.
 ///
 /// # Errors
 ///
 /// - `AllocError`: an allocation failed; the table is unchanged.
-pub fn reserve(slots: &mut [Slot], at: usize) -> Result<bool, AllocError>
-    ensures ok { IfOk result (λ done. IsMade done at Reserved (MayReserve slots.old) slots.old slots.new) }
+pub fn reserve(slots: &mut [Slot], at: usize, now: u64) -> Result<bool, AllocError>
+    ensures ok { IfOk result (λ done. IsMade done at (Reserved now) (MayReserve slots.old) slots.old slots.new) }
     ensures err { OnErr result (slots.new ≡ slots.old) }
 {
     if at >= slots.len() {
@@ -110,7 +111,7 @@ pub fn reserve(slots: &mut [Slot], at: usize) -> Result<bool, AllocError>
         return Ok(false);
     }
     let slot = &mut slots[at];
-    slot.reserve()?;
+    slot.reserve(now)?;
     Ok(true)
 }
 
@@ -154,6 +155,60 @@ pub fn is_full(slots: &[Slot]) -> bool
         left -= size;
     }
     false
+}
+
+/// Returns whether more than `MAX_UNSENT` bytes of replies and lines are unsent, and a connection awaits an answer.
+pub fn is_crowded(slots: &[Slot]) -> bool
+    ensures yes { IsTrue result → IsCrowded slots.now }
+    ensures no { IsFalse result → IsCrowded slots.now → ⊥ }
+{
+    if !is_full(slots) {
+        return false;
+    }
+    is_one_awaiting(slots)
+}
+
+/// Returns whether a connection awaits an answer.
+fn is_one_awaiting(slots: &[Slot]) -> bool
+    ensures yes { IsTrue result → HasOne AwaitsAnswer slots.now }
+    ensures no { IsFalse result → HasOne AwaitsAnswer slots.now → ⊥ }
+{
+    for slot in slots {
+        if slot.awaits_answer() {
+            return true;
+        }
+    }
+    false
+}
+
+/// Returns whether a client may be asked now, to send more or to take more of a reply, and was not since it last sent
+/// or took a byte.
+pub fn is_one_unasked(slots: &[Slot]) -> bool
+    ensures yes { IsTrue result → IsOneUnasked slots.now }
+    ensures no { IsFalse result → IsOneUnasked slots.now → ⊥ }
+{
+    for at in 0..slots.len() {
+        if is_unasked(slots, at) {
+            return true;
+        }
+    }
+    false
+}
+
+/// Returns whether the client at the slot `at` may be asked now, and was not since it last sent or took a byte.
+fn is_unasked(slots: &[Slot], at: usize) -> bool
+    requires { at < length slots.now }
+    ensures yes { IsTrue result → (c : Connection) → slice_get slots.now at ≡ Some c → IsUnasked slots.now c }
+    ensures no { IsFalse result → (c : Connection) → slice_get slots.now at ≡ Some c → IsUnasked slots.now c → ⊥ }
+{
+    let slot = &slots[at];
+    if slot.is_asked() {
+        return false;
+    }
+    if slot.may_offer() {
+        return true;
+    }
+    may_reserve(slots, at)
 }
 
 /// Adds bytes that came at the slot `at`, at the time `now`; returns whether its connection may be read from, and there
@@ -227,9 +282,10 @@ fn is_called_for(slots: &[Slot], why: Reason) -> bool
     ensures no { IsFalse result → IsCalledFor why slots.now → ⊥ }
 {
     match why {
-        Reason::Crowded => is_full(slots),
+        Reason::Crowded => is_crowded(slots),
         Reason::Over
         | Reason::Broken
+        | Reason::NoMemory
         | Reason::Unlogged
         | Reason::Uncommitted
         | Reason::Expired(_)

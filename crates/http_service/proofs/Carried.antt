@@ -56,12 +56,12 @@ one_request first (Err s) v new status line so_far h = (
 )
 
 -- a borrowed site, and a run so far that came to it
-record Carries (start r : SiteService) (v : Served) : Type 0 where
+pub record Carries (start r : SiteService) (v : Served) : Type 0 where
   pub site : v.site ≡ r.site.now
   pub running : Running start.site.now v
   pub borrow : r.site.ghost_name ≡ start.site.ghost_name
 
-carry_on : (start a b : SiteService) (x : Served) (m t body : List ℕ) (status : StatusCode) (line : List ℕ) → Carries start a x
+pub carry_on : (start a b : SiteService) (x : Served) (m t body : List ℕ) (status : StatusCode) (line : List ℕ) → Carries start a x
     → answers_over a m t body status line b
     → (y : Served) × ContinuesRequest x m t body status line y × Carries start b y
 carry_on start a b x m t body status line carries h =
@@ -70,7 +70,7 @@ carry_on start a b x m t body status line carries h =
     (subst (λ (s : SiteView). RepliesTo s asks status line b.site.now) (sym carries.site) h.0) in
     (one.0, one.1, record { site = one.3; running = one.2; borrow = h.1 ∙ carries.borrow })
 
-carried_first : (start : SiteService) → Carries start start (before_requests start.site.now)
+pub carried_first : (start : SiteService) → Carries start start (before_requests start.site.now)
 carried_first start = record {
   site = refl;
   running = record { run = refl; same = (refl, refl) };

@@ -3,6 +3,9 @@ pub mod ServedLemmas
 pub mod RunLemmas
 pub mod OneReply
 pub mod LoggedRuns
+pub mod Chains
+pub mod TogetherLemmas
+mod AskedLemmas
 pub mod Noted
 pub mod UnreadLemmas
 mod PieceLemmas

@@ -24,7 +24,7 @@ replied : (a : Asked) (v w : Served) (status : StatusCode) (line : List ℕ) →
 replied (Ok i) v w status line h = (h.0, h.1, h.2, h.3)
 replied (Err s) v w status line h = h.0
 
-one_answer : (v w : Served) (s : SiteView) (m t body : List ℕ) (status : StatusCode) (line : List ℕ) → v.site ≡ s
+pub one_answer : (v w : Served) (s : SiteView) (m t body : List ℕ) (status : StatusCode) (line : List ℕ) → v.site ≡ s
     → ContinuesRequest v m t body status line w → (u : SiteView) × answers s m t body status line u × (w.site ≡ u)
 one_answer v w s m t body status line is h =
     let a = route_stated m t body in
@@ -49,7 +49,7 @@ asks_none v w bytes e = record {
   joined = ap (λ (x : Served). x.inputs) e ∙ sym (append-nil v.inputs);
 }
 
-handed : (a : Asked) (v w : Served) (status : StatusCode) (line : List ℕ) → Continues v a status line w
+pub handed : (a : Asked) (v w : Served) (status : StatusCode) (line : List ℕ) → Continues v a status line w
     → w.inputs ≡ v.inputs ++ inputs_of a
 handed (Ok i) v w status line h = h.4
 handed (Err s) v w status line h = h.1 ∙ sym (append-nil v.inputs)

@@ -6,6 +6,8 @@ pub mod RequestReplies
 pub mod Lines
 pub mod Streams
 pub mod Serving
+pub mod Together
+pub mod AskedInputs
 -- of this layer
 pub use Rattle.http_replies.specs as http_replies
 -- of lower layers

@@ -2,6 +2,7 @@
 ghost use Rattle.std.specs.Prelude.{◌≡◌, ◌≤◌, ◌++◌, ℕ, Bool, List, Result, length};
 ghost use Rattle.std.specs.Io.KnownBytes.{Consumes};
 ghost use Rattle.http.specs.declared.status.StatusCode.{StatusCode};
+ghost use Rattle.http_service.specs.AskedInputs.{ConnectionsLeaveRuns};
 ghost use Rattle.http_service.specs.LogLines.{IsLogLine, head_text, text_of};
 ghost use Rattle.http_service.specs.OneLine.{IsOneLine};
 ghost use Rattle.http_service.specs.Routes.{route_stated};
@@ -64,6 +65,15 @@ pub fn served_streams_are_answered<R: Source, W: Sink>()
 {
     runs_leave_what_they_took();
 }
+
+/// Proves the parts of `AreConnectionsServed`, the promise of a call that served many connections. No-op.
+///
+/// The site replies to each request as it was then. The inputs of the run are those that the answered requests ask for,
+/// of all connections, in the order in which they were answered. Each reply of a connection is a reply of the site to
+/// the request of this connection.
+pub fn connections_leave_runs()
+    ensures { ConnectionsLeaveRuns }
+{}
 
 /// Proves that, under one schema that some bytes describe, sites with the same name and equal stores answer each
 /// request with the same status and body, and hold equal stores afterwards, except when out of memory (503). No-op.

@@ -15,19 +15,22 @@ mod route;
 mod routing;
 mod serving;
 mod site_service;
+mod together;
 
 pub use laws::{
-    change_lines_have_stamps, cuts_make_no_difference, requests_have_one_reply,
-    served_answers_are_sound, served_lines_are_one_line, served_streams_are_answered,
-    streams_leave_runs,
+    change_lines_have_stamps, connections_leave_runs, cuts_make_no_difference,
+    requests_have_one_reply, served_answers_are_sound, served_lines_are_one_line,
+    served_streams_are_answered, streams_leave_runs,
 };
 pub use log_laws::{decision_lines_name_requests, lines_have_one_line_feed};
 pub use route::Route;
 pub use routing::route_of;
 pub use serving::{serve, serve_logged};
 pub use site_service::{LoggedService, SiteService};
+pub use together::{ServingFault, serve_connections};
 
 // of this layer
+pub use connection_loop::limits::Limits;
 pub use http_replies::{
     LINE_ROOM, fault_place, report_fault, report_put, report_stamp, report_taken,
 };

@@ -25,7 +25,7 @@ module _ {S : Type 0} (answers : Answering S) (lines : LineRelation) (refusal : 
       → StepsAt (AnswersBytes answers) (IsLineOf lines refusal) commits commit_fails old change new
       → AreAllReplied (continued st change)
   step st (Opened now) old new h s = All-nil (IsReplied answers)
-  step st Reserved old new h s = h
+  step st (Reserved now) old new h s = h
   step st (Came bytes now) old new h s = h
   step st Ended old new h s = h
   step st (Asked now) old new h s = h

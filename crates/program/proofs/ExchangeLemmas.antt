@@ -27,13 +27,13 @@ use Rattle.program.specs.Pulling.{NoReadFailed, NoWriteFailed}
 use Rattle.program.specs.Exchanging.{Calls, CallsIfReached, CallsOver, Direction, IsCallErrorReported, IsCallReported, IsNotCalled, WritesTaken}
 use Rattle.program.specs.inner.ExchangeEvents.{IsReplied, IsRepliedOver, Never, NoCourse, WasExchanged}
 
-module _ {L G H : Type 0} (does : H → Event L G → H → Type 0) where
-  does_both : (xs ys : List (Event L G)) (old mid new : H) → Does does xs old mid → Does does ys mid new → Does does (xs ++ ys) old new
+module _ {L G N H : Type 0} (does : H → Event L G N → H → Type 0) where
+  does_both : (xs ys : List (Event L G N)) (old mid new : H) → Does does xs old mid → Does does ys mid new → Does does (xs ++ ys) old new
   does_both [] ys old mid new first second = subst (λ (h : H). Does does ys h new) first second
   does_both (x ∷ xs) ys old mid new first second = (first.0, first.1, does_both xs ys first.0 mid new first.2 second)
 
   -- what was done in two parts
-  pub runs_both : {P Q S : List (Event L G) → Type 0} (old mid new : H) → ((xs ys : List (Event L G)) → P xs → Q ys → S (xs ++ ys))
+  pub runs_both : {P Q S : List (Event L G N) → Type 0} (old mid new : H) → ((xs ys : List (Event L G N)) → P xs → Q ys → S (xs ++ ys))
       → Runs does old mid P → Runs does mid new Q → Runs does old new S
   runs_both old mid new joined first second =
       (first.0 ++ second.0, does_both first.0 second.0 old mid new first.1 second.1, joined first.0 second.0 first.2 second.2)
@@ -67,7 +67,7 @@ module _ {R W : Type 0} (reader : Source R) (writer : Sink W) (at : RoundCall) (
   not_called (Refused r) refused unanswered begun host size reads writes =
       (refused r refl, begun, reads (λ e. absurd cc), writes (λ e. absurd cc))
 
-  module _ {G H V E : Type 0} (does : H → Event (Link R W) G → H → Type 0) (old next new : H) (items : V → List ℕ) (status : E → ℕ) where
+  module _ {G N H V E : Type 0} (does : H → Event (Link R W) G N → H → Type 0) (old next new : H) (items : V → List ℕ) (status : E → ℕ) where
     -- what was asked over a connection, which is let go
     pub called_over : (came : Result V PullFault) (result : Result V E)
         → IfOk came (λ v. IsAnswered reader.left reader.reads writer.holds request link.reader left.reader link.writer left.writer 200 (items v))
@@ -120,8 +120,8 @@ module _ {R W : Type 0} (reader : Source R) (writer : Sink W) (at : RoundCall) (
           ),
         )
 
-module _ {R W G : Type 0} (reader : Source R) (writer : Sink W) where
-  module _ {H V E : Type 0} (does : H → Event (Link R W) G → H → Type 0) (old next new : H) (items : V → List ℕ) (status : E → ℕ) where
+module _ {R W G N : Type 0} (reader : Source R) (writer : Sink W) where
+  module _ {H V E : Type 0} (does : H → Event (Link R W) G N → H → Type 0) (old next new : H) (items : V → List ℕ) (status : E → ℕ) where
     -- over a connection that was opened
     pub called_at : (at : RoundCall) (body : List ℕ) (link : Link R W) (result : Result V E) → does old (connected at.address.now (Some link)) next
         → MatchResult result (λ v. Runs does next new (IsRepliedOver reader writer at body link (items v)))
@@ -131,13 +131,13 @@ module _ {R W G : Type 0} (reader : Source R) (writer : Sink W) where
     called_at at body link (Ok v) opened run = (
       connected at.address.now (Some link) ∷ run.0,
       (next, opened, run.1),
-      (link, run.2.0, run.2.1, ap (λ (es : List (Event (Link R W) G)). connected at.address.now (Some link) ∷ es) run.2.2),
+      (link, run.2.0, run.2.1, ap (λ (es : List (Event (Link R W) G N)). connected at.address.now (Some link) ∷ es) run.2.2),
     )
     called_at at body link (Err e) opened run =
         (connected at.address.now (Some link) ∷ run.0, (next, opened, run.1), (Some link, run.0, refl, run.2))
 
   -- none could be opened
-  pub not_reached : {H : Type 0} (does : H → Event (Link R W) G → H → Type 0) (old next new : H) (at : RoundCall) (body : List ℕ) (end : ℕ)
+  pub not_reached : {H : Type 0} (does : H → Event (Link R W) G N → H → Type 0) (old next new : H) (at : RoundCall) (body : List ℕ) (end : ℕ)
       → does old (connected at.address.now None) next → Runs does next new (λ events. IsCallReported at cause.NotReached events end)
       → Runs does old new (λ events. Calls reader writer at body Never events end)
   not_reached does old next new at body end step run =
@@ -145,39 +145,39 @@ module _ {R W G : Type 0} (reader : Source R) (writer : Sink W) where
 
   -- ---- what goes on
 
-  replied_then : (at : RoundCall) (body reply : List ℕ) (goes_on : List ℕ → Course (Link R W) G) (one rest : List (Event (Link R W) G)) (end : ℕ)
+  replied_then : (at : RoundCall) (body reply : List ℕ) (goes_on : List ℕ → Course (Link R W) G N) (one rest : List (Event (Link R W) G N)) (end : ℕ)
       → IsReplied reader writer at body reply one → goes_on reply rest end → Calls reader writer at body goes_on (one ++ rest) end
   replied_then at body reply goes_on one rest end so on =
-      (Some so.0, closed so.1 ∷ rest, ap (λ (es : List (Event (Link R W) G)). es ++ rest) so.3, inl (reply, so.1, rest, so.2, refl, on))
+      (Some so.0, closed so.1 ∷ rest, ap (λ (es : List (Event (Link R W) G N)). es ++ rest) so.3, inl (reply, so.1, rest, so.2, refl, on))
 
   -- a call that ended the run ends it whatever would have come
-  if_reached : (at : RoundCall) (body : List ℕ) (goes_on : List ℕ → Course (Link R W) G) (came : Option (Link R W)) (events : List (Event (Link R W) G)) (end : ℕ)
+  if_reached : (at : RoundCall) (body : List ℕ) (goes_on : List ℕ → Course (Link R W) G N) (came : Option (Link R W)) (events : List (Event (Link R W) G N)) (end : ℕ)
       → CallsIfReached reader writer at body Never came events end → CallsIfReached reader writer at body goes_on came events end
   if_reached at body goes_on None events end told = told
   if_reached at body goes_on (Some link) events end (inl on) = absurd on.5
   if_reached at body goes_on (Some link) events end (inr told) = inr told
 
-  pub ended_by : (at : RoundCall) (body : List ℕ) (goes_on : List ℕ → Course (Link R W) G) (end : ℕ) (events : List (Event (Link R W) G))
+  pub ended_by : (at : RoundCall) (body : List ℕ) (goes_on : List ℕ → Course (Link R W) G N) (end : ℕ) (events : List (Event (Link R W) G N))
       → Calls reader writer at body Never events end → Calls reader writer at body goes_on events end
   ended_by at body goes_on end events run = (run.0, run.1, run.2, if_reached at body goes_on run.0 run.1 end run.3)
 
   -- the same, going on in another way
-  if_reached_as : (at : RoundCall) (body : List ℕ) (f g : List ℕ → Course (Link R W) G) (end : ℕ)
-      → ((reply : List ℕ) (events : List (Event (Link R W) G)) → f reply events end → g reply events end)
-      → (came : Option (Link R W)) (events : List (Event (Link R W) G))
+  if_reached_as : (at : RoundCall) (body : List ℕ) (f g : List ℕ → Course (Link R W) G N) (end : ℕ)
+      → ((reply : List ℕ) (events : List (Event (Link R W) G N)) → f reply events end → g reply events end)
+      → (came : Option (Link R W)) (events : List (Event (Link R W) G N))
       → CallsIfReached reader writer at body f came events end → CallsIfReached reader writer at body g came events end
   if_reached_as at body f g end other None events told = told
   if_reached_as at body f g end other (Some link) events (inl on) = inl (on.0, on.1, on.2, on.3, on.4, other on.0 on.2 on.5)
   if_reached_as at body f g end other (Some link) events (inr told) = inr told
 
-  pub calls_as : (at : RoundCall) (body : List ℕ) (f g : List ℕ → Course (Link R W) G) (end : ℕ)
-      → ((reply : List ℕ) (events : List (Event (Link R W) G)) → f reply events end → g reply events end)
-      → (events : List (Event (Link R W) G)) → Calls reader writer at body f events end → Calls reader writer at body g events end
+  pub calls_as : (at : RoundCall) (body : List ℕ) (f g : List ℕ → Course (Link R W) G N) (end : ℕ)
+      → ((reply : List ℕ) (events : List (Event (Link R W) G N)) → f reply events end → g reply events end)
+      → (events : List (Event (Link R W) G N)) → Calls reader writer at body f events end → Calls reader writer at body g events end
   calls_as at body f g end other events run = (run.0, run.1, run.2, if_reached_as at body f g end other run.0 run.1 run.3)
 
   -- the same behind calls that brought a reply
-  pub replied_on : {H : Type 0} (does : H → Event (Link R W) G → H → Type 0) (old next new : H) (at : RoundCall) (body reply : List ℕ)
-      (goes_on : List ℕ → Course (Link R W) G) (end : ℕ) → Runs does old next (IsReplied reader writer at body reply)
+  pub replied_on : {H : Type 0} (does : H → Event (Link R W) G N → H → Type 0) (old next new : H) (at : RoundCall) (body reply : List ℕ)
+      (goes_on : List ℕ → Course (Link R W) G N) (end : ℕ) → Runs does old next (IsReplied reader writer at body reply)
       → Runs does next new (λ events. goes_on reply events end) → Runs does old new (λ events. Calls reader writer at body goes_on events end)
   replied_on does old next new at body reply goes_on end first second =
       runs_both does old next new (λ one rest so on. replied_then at body reply goes_on one rest end so on) first second
@@ -194,17 +194,17 @@ module _ {R W : Type 0} (reader : Source R) (writer : Sink W) (first : ℕ) (to 
   abbrev pub merge_call : RoundCall
   merge_call = record { number = first + 2; call = call.Merge; address = to }
 
-  abbrev pub after_merge : {G : Type 0} → Course (Link R W) G → List ℕ → Course (Link R W) G
+  abbrev pub after_merge : {G N : Type 0} → Course (Link R W) G N → List ℕ → Course (Link R W) G N
   after_merge goes_on line = WritesTaken merge_call line goes_on
 
-  abbrev pub after_delta : {G : Type 0} → Course (Link R W) G → List ℕ → Course (Link R W) G
+  abbrev pub after_delta : {G N : Type 0} → Course (Link R W) G N → List ℕ → Course (Link R W) G N
   after_delta goes_on delta = Calls reader writer merge_call delta (after_merge goes_on)
 
-  abbrev pub after_summary : {G : Type 0} → Course (Link R W) G → List ℕ → Course (Link R W) G
+  abbrev pub after_summary : {G N : Type 0} → Course (Link R W) G N → List ℕ → Course (Link R W) G N
   after_summary goes_on summary = Calls reader writer delta_call summary (after_delta goes_on)
 
   -- three calls and a line
-  pub was_exchanged : {G H : Type 0} (does : H → Event (Link R W) G → H → Type 0) (h0 h1 h2 h3 h4 : H) (summary delta line : List ℕ)
+  pub was_exchanged : {G N H : Type 0} (does : H → Event (Link R W) G N → H → Type 0) (h0 h1 h2 h3 h4 : H) (summary delta line : List ℕ)
       → Runs does h0 h1 (IsReplied reader writer summary_call [] summary) → Runs does h1 h2 (IsReplied reader writer delta_call summary delta)
       → Runs does h2 h3 (IsReplied reader writer merge_call delta line) → IsTakenLine line → does h3 (wrote Answers (ended line) true) h4
       → Runs does h0 h4 (WasExchanged reader writer first to from)
@@ -228,43 +228,43 @@ module _ {R W : Type 0} (reader : Source R) (writer : Sink W) (first : ℕ) (to 
     },
   )
 
-  exchanged_then : {G : Type 0} (goes_on : Course (Link R W) G) (events rest : List (Event (Link R W) G)) (end : ℕ) → WasExchanged reader writer first to from events
+  exchanged_then : {G N : Type 0} (goes_on : Course (Link R W) G N) (events rest : List (Event (Link R W) G N)) (end : ℕ) → WasExchanged reader writer first to from events
       → goes_on rest end → Direction reader writer first to from goes_on (events ++ rest) end
-  exchanged_then {G} goes_on events rest end so on =
-      subst (λ (es : List (Event (Link R W) G)). Direction reader writer first to from goes_on es end) (sym (grouped so.one so.two so.three events so.are))
+  exchanged_then {G} {N} goes_on events rest end so on =
+      subst (λ (es : List (Event (Link R W) G N)). Direction reader writer first to from goes_on es end) (sym (grouped so.one so.two so.three events so.are))
       (replied_then reader writer summary_call [] so.summary (after_summary goes_on) so.one _ end so.asked
       (replied_then reader writer delta_call so.summary so.delta (after_delta goes_on) so.two _ end so.told
       (replied_then reader writer merge_call so.delta so.line (after_merge goes_on) so.three (wrote Answers (ended so.line) true ∷ rest) end so.merged
       (inl (so.taken, (true, rest, refl, on))))))
     where
-      grouped : (a b c es : List (Event (Link R W) G)) → es ≡ a ++ (b ++ (c ++ wrote Answers (ended so.line) true ∷ []))
+      grouped : (a b c es : List (Event (Link R W) G N)) → es ≡ a ++ (b ++ (c ++ wrote Answers (ended so.line) true ∷ []))
           → es ++ rest ≡ a ++ (b ++ (c ++ wrote Answers (ended so.line) true ∷ rest))
       grouped a b c es is =
-          ap (λ (t : List (Event (Link R W) G)). t ++ rest) is
+          ap (λ (t : List (Event (Link R W) G N)). t ++ rest) is
           ∙ append_assoc a (b ++ (c ++ wrote Answers (ended so.line) true ∷ [])) rest
-          ∙ ap (λ (t : List (Event (Link R W) G)). a ++ t) (append_assoc b (c ++ wrote Answers (ended so.line) true ∷ []) rest)
-          ∙ ap (λ (t : List (Event (Link R W) G)). a ++ (b ++ t)) (append_assoc c (wrote Answers (ended so.line) true ∷ []) rest)
+          ∙ ap (λ (t : List (Event (Link R W) G N)). a ++ t) (append_assoc b (c ++ wrote Answers (ended so.line) true ∷ []) rest)
+          ∙ ap (λ (t : List (Event (Link R W) G N)). a ++ (b ++ t)) (append_assoc c (wrote Answers (ended so.line) true ∷ []) rest)
 
   -- one direction, and what goes on behind it
-  pub exchanged_on : {G H : Type 0} (does : H → Event (Link R W) G → H → Type 0) (old next new : H) (goes_on : Course (Link R W) G) (end : ℕ)
+  pub exchanged_on : {G N H : Type 0} (does : H → Event (Link R W) G N → H → Type 0) (old next new : H) (goes_on : Course (Link R W) G N) (end : ℕ)
       → Runs does old next (WasExchanged reader writer first to from) → Runs does next new (λ events. goes_on events end)
       → Runs does old new (λ events. Direction reader writer first to from goes_on events end)
   exchanged_on does old next new goes_on end one two =
       runs_both does old next new (λ events rest so on. exchanged_then goes_on events rest end so on) one two
 
   -- a direction that ended the run ends it whatever would have come
-  announced_ended : {G : Type 0} (done : Bool) (goes_on : Course (Link R W) G) (events : List (Event (Link R W) G)) (end : ℕ)
+  announced_ended : {G N : Type 0} (done : Bool) (goes_on : Course (Link R W) G N) (events : List (Event (Link R W) G N)) (end : ℕ)
       → GoesOnAnnounced NoCourse done events end → GoesOnAnnounced goes_on done events end
   announced_ended true goes_on events end told = absurd told
   announced_ended false goes_on events end told = told
 
-  taken_ended : {G : Type 0} (goes_on : Course (Link R W) G) (line : List ℕ) (events : List (Event (Link R W) G)) (end : ℕ)
+  taken_ended : {G N : Type 0} (goes_on : Course (Link R W) G N) (line : List ℕ) (events : List (Event (Link R W) G N)) (end : ℕ)
       → after_merge NoCourse line events end → after_merge goes_on line events end
   taken_ended goes_on line events end (inl told) =
       inl (told.0, (told.1.0, told.1.1, told.1.2, announced_ended told.1.0 goes_on told.1.1 end told.1.3))
   taken_ended goes_on line events end (inr told) = inr told
 
-  pub direction_ended : {G : Type 0} (goes_on : Course (Link R W) G) (end : ℕ) (events : List (Event (Link R W) G))
+  pub direction_ended : {G N : Type 0} (goes_on : Course (Link R W) G N) (end : ℕ) (events : List (Event (Link R W) G N))
       → Direction reader writer first to from NoCourse events end → Direction reader writer first to from goes_on events end
   direction_ended goes_on end events run =
       calls_as reader writer summary_call [] (after_summary NoCourse) (after_summary goes_on) end (λ summary es r.
@@ -272,7 +272,7 @@ module _ {R W : Type 0} (reader : Source R) (writer : Sink W) (first : ℕ) (to 
       calls_as reader writer merge_call delta (after_merge NoCourse) (after_merge goes_on) end (λ line es r. taken_ended goes_on line es end r) es r) es r) events run
 
   -- what the last of them comes to, behind the three calls
-  pub told_or_ended : {G H U E : Type 0} (does : H → Event (Link R W) G → H → Type 0) (h0 h1 h2 h3 h4 : H) (summary delta line : List ℕ) (status : E → ℕ)
+  pub told_or_ended : {G N H U E : Type 0} (does : H → Event (Link R W) G N → H → Type 0) (h0 h1 h2 h3 h4 : H) (summary delta line : List ℕ) (status : E → ℕ)
       (result : Result U E)
       → Runs does h0 h1 (IsReplied reader writer summary_call [] summary) → Runs does h1 h2 (IsReplied reader writer delta_call summary delta)
       → Runs does h2 h3 (IsReplied reader writer merge_call delta line)
@@ -288,7 +288,7 @@ module _ {R W : Type 0} (reader : Source R) (writer : Sink W) (first : ℕ) (to 
       (replied_on reader writer does h2 h3 h4 merge_call delta line (after_merge NoCourse) (status e) c told))
 
   -- the second call, or the third, ended the run
-  pub second_ended : {G H : Type 0} (does : H → Event (Link R W) G → H → Type 0) (h0 h1 h2 : H) (summary : List ℕ) (end : ℕ)
+  pub second_ended : {G N H : Type 0} (does : H → Event (Link R W) G N → H → Type 0) (h0 h1 h2 : H) (summary : List ℕ) (end : ℕ)
       → Runs does h0 h1 (IsReplied reader writer summary_call [] summary)
       → Runs does h1 h2 (λ events. Calls reader writer delta_call summary Never events end)
       → Runs does h0 h2 (λ events. Direction reader writer first to from NoCourse events end)
@@ -296,7 +296,7 @@ module _ {R W : Type 0} (reader : Source R) (writer : Sink W) (first : ℕ) (to 
       replied_on reader writer does h0 h1 h2 summary_call [] summary (after_summary NoCourse) end a
       (run.0, run.1, ended_by reader writer delta_call summary (after_delta NoCourse) end run.0 run.2)
 
-  pub third_ended : {G H : Type 0} (does : H → Event (Link R W) G → H → Type 0) (h0 h1 h2 h3 : H) (summary delta : List ℕ) (end : ℕ)
+  pub third_ended : {G N H : Type 0} (does : H → Event (Link R W) G N → H → Type 0) (h0 h1 h2 h3 : H) (summary delta : List ℕ) (end : ℕ)
       → Runs does h0 h1 (IsReplied reader writer summary_call [] summary) → Runs does h1 h2 (IsReplied reader writer delta_call summary delta)
       → Runs does h2 h3 (λ events. Calls reader writer merge_call delta Never events end)
       → Runs does h0 h3 (λ events. Direction reader writer first to from NoCourse events end)

@@ -15,7 +15,7 @@ pub ok_as : {A E : Type 0} (r : Result A E) (P Q : A → Type 0) → ((x : A) �
 ok_as (Ok x) P Q so h = so x h
 ok_as (Err e) P Q so h = tt
 
-module _ {L G H : Type 0} (does : H → Event L G → H → Type 0) where
+module _ {L G N H : Type 0} (does : H → Event L G N → H → Type 0) where
   -- a text with a byte is written
   pub lines_told : (old new : H) (text lines : List ℕ) (done : Bool) → (length lines == 0) ≡ false → IsWithoutEnd text lines
       → does old (wrote Faults (ended lines) done) new → Runs does old new (λ events. IsTextWritten text events)
@@ -36,19 +36,19 @@ module _ {L G H : Type 0} (does : H → Event L G → H → Type 0) where
   made_told old new Is (Ok text) is run = (run.0, run.1, inl (string_bytes text, is, run.2))
   made_told old new Is (Err error) is run = (run.0, run.1, inr run.2)
 
-  does_both : (xs ys : List (Event L G)) (old mid new : H) → Does does xs old mid → Does does ys mid new → Does does (xs ++ ys) old new
+  does_both : (xs ys : List (Event L G N)) (old mid new : H) → Does does xs old mid → Does does ys mid new → Does does (xs ++ ys) old new
   does_both [] ys old mid new first second = subst (λ (h : H). Does does ys h new) first second
   does_both (x ∷ xs) ys old mid new first second = (first.0, first.1, does_both xs ys first.0 mid new first.2 second)
 
   -- if an explanation is wanted, it is written after the report
-  pub followed : (old mid new : H) (wanted : Bool) (Is : List ℕ → Type 0) (course : Course L G) (end : ℕ) → wanted ≡ true
+  pub followed : (old mid new : H) (wanted : Bool) (Is : List ℕ → Type 0) (course : Course L G N) (end : ℕ) → wanted ≡ true
       → Runs does old mid (λ events. course events end) → Runs does mid new (λ events. IsExplanationWritten Is events)
       → Runs does old new (λ events. Explains wanted Is course events end)
   followed old mid new false Is course end is first behind = absurd cc
   followed old mid new true Is course end is first behind =
       (first.0 ++ behind.0, does_both first.0 behind.0 old mid new first.1 behind.1, (first.0, behind.0, first.2, behind.2, refl))
 
-  pub not_followed : (old new : H) (wanted : Bool) (Is : List ℕ → Type 0) (course : Course L G) (end : ℕ) → wanted ≡ false
+  pub not_followed : (old new : H) (wanted : Bool) (Is : List ℕ → Type 0) (course : Course L G N) (end : ℕ) → wanted ≡ false
       → Runs does old new (λ events. course events end) → Runs does old new (λ events. Explains wanted Is course events end)
   not_followed old new false Is course end is run = run
   not_followed old new true Is course end is run = absurd cc

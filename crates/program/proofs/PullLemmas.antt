@@ -79,8 +79,8 @@ module _ {R W : Type 0} (reader : Source R) (writer : Sink W) (schema : List ℕ
       (n.0, n.1, n.2, n.3, λ other. reads (λ e. other cc), λ other. writes (λ e. other cc))
 
 -- the connection is let go, and what came of the pull is told
-pub pulled_over : {R W G H : Type 0} (reader : Source R) (writer : Sink W) (options : PullOptions) (schema : List ℕ) (state : Option (List ℕ))
-    (link left : Link R W) (does : H → Event (Link R W) G → H → Type 0) (old next new : H) (came : Result Pulled PullFault) (end : ℕ)
+pub pulled_over : {R W G N H : Type 0} (reader : Source R) (writer : Sink W) (options : PullOptions) (schema : List ℕ) (state : Option (List ℕ))
+    (link left : Link R W) (does : H → Event (Link R W) G N → H → Type 0) (old next new : H) (came : Result Pulled PullFault) (end : ℕ)
     → IsPull reader writer schema state options.from.now link came left → does old (closed left) next
     → Runs does next new (λ events. IsPullReported options came events end)
     → Runs does old new (λ events. IsPulledOver reader writer options schema state link events end)

@@ -35,8 +35,8 @@ due_or : (Refused : Refusal → Type 0) (refusal : Refusal) → (refusal ≡ no_
 due_or Refused refusal (inl is) due = inl is
 due_or Refused refusal (inr other) due = inr (due other)
 
-module _ {L G : Type 0} (Refused : Refusal → Type 0) where
-  told_as : (refusal : Refusal) (events : List (Event L G)) (end : ℕ) → (refusal ≡ no_memory) ⊎ (refusal ≡ no_memory → ⊥)
+module _ {L G N : Type 0} (Refused : Refusal → Type 0) where
+  told_as : (refusal : Refusal) (events : List (Event L G N)) (end : ℕ) → (refusal ≡ no_memory) ⊎ (refusal ≡ no_memory → ⊥)
       → ((refusal ≡ no_memory → ⊥) → Refused refusal) → IsRefusalReported refusal events end ⊎ IsMemoryReported events end
       → IsRefusedFor Refused events end
   told_as refusal events end which due (inr told) = inr told
@@ -45,24 +45,24 @@ module _ {L G : Type 0} (Refused : Refusal → Type 0) where
 
   -- what texts are refused for is told, or that memory was refused
   pub refused_for : (refusal : Refusal) (end : ℕ) → ((refusal ≡ no_memory → ⊥) → Refused refusal)
-      → (events : List (Event L G)) → IsRefusalReported refusal events end ⊎ IsMemoryReported events end → IsRefusedFor Refused events end
+      → (events : List (Event L G N)) → IsRefusalReported refusal events end ⊎ IsMemoryReported events end → IsRefusedFor Refused events end
   refused_for refusal end due events told = told_as refusal events end (is_no_memory refusal) due told
 
   -- and where a line could have been
   pub line_refused : (Decided : List ℕ → Type 0) (refusal : Refusal) (end : ℕ) → ((refusal ≡ no_memory → ⊥) → Refused refusal)
-      → (events : List (Event L G)) → IsRefusalReported refusal events end ⊎ IsMemoryReported events end
+      → (events : List (Event L G N)) → IsRefusalReported refusal events end ⊎ IsMemoryReported events end
       → IsLineOrRefusal Decided Refused events end
   line_refused Decided refusal end due events told = inr (refused_for refusal end due events told)
 
   -- and explained behind that, if that is asked for
   pub refused_and : (wanted : Bool) (Is : Refusal → List ℕ → Type 0) (refusal : Refusal) (end : ℕ) → ((refusal ≡ no_memory → ⊥) → Refused refusal)
-      → (events : List (Event L G)) → Explains wanted (Is refusal) (IsErrorReported refusal) events end
+      → (events : List (Event L G N)) → Explains wanted (Is refusal) (IsErrorReported refusal) events end
       → IsErrorThenText wanted Is Refused events end
   refused_and false Is refusal end due events told = refused_for refusal end due events told
   refused_and true Is refusal end due events told = (refusal, due_or Refused refusal (is_no_memory refusal) due, told)
 
   pub line_refused_and : (Decided : List ℕ → Type 0) (wanted : Bool) (Is : Refusal → List ℕ → Type 0) (refusal : Refusal) (end : ℕ)
       → ((refusal ≡ no_memory → ⊥) → Refused refusal)
-      → (events : List (Event L G)) → Explains wanted (Is refusal) (IsErrorReported refusal) events end
+      → (events : List (Event L G N)) → Explains wanted (Is refusal) (IsErrorReported refusal) events end
       → IsLineOrErrorThenText wanted Is Decided Refused events end
   line_refused_and Decided wanted Is refusal end due events told = inr (refused_and wanted Is refusal end due events told)

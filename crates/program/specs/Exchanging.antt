@@ -65,27 +65,27 @@ unfoldable pub call_report : RoundCall → List ℕ → List ℕ
 call_report c why = c.address.now ++ codes ": call " ++ decimal c.number ++ codes " of 6, " ++ call_text c.call
     ++ codes ": " ++ why
 
-module _ {L G : Type 0} where
+module _ {L G N : Type 0} where
   -- `IsCallReported c fault`: the error `fault` of the call `c` is reported, and the run ends with status 3; or out
   -- of memory is reported.
-  abbrev pub IsCallReported : RoundCall → CallFault → Course L G
+  abbrev pub IsCallReported : RoundCall → CallFault → Course L G N
   IsCallReported c fault events end = IsFailureReported (call_report c (fault_text fault)) events end
       ⊎ IsMemoryReported events end
 
   -- `IsCallErrorReported c fault`: the error `fault`, which came in place of a reply to the call `c`, is reported;
   -- `Refused` is out of memory.
-  abbrev pub IsCallErrorReported : RoundCall → PullFault → Course L G
+  abbrev pub IsCallErrorReported : RoundCall → PullFault → Course L G N
   IsCallErrorReported c (Network fault) = IsCallReported c (cause.Network fault)
   IsCallErrorReported c (Refused refusal) = IsMemoryReported
 
   -- `WritesTaken c line goes_on`: the count `line` is written to standard output, and the run goes on by `goes_on`; or
   -- it is reported that `line`, the reply to the call `c`, is not a count (`IsCallReported`).
-  abbrev pub WritesTaken : RoundCall → List ℕ → Course L G → Course L G
+  abbrev pub WritesTaken : RoundCall → List ℕ → Course L G N → Course L G N
   WritesTaken c line goes_on events end = (IsTakenLine line × Announces line goes_on events end)
       ⊎ ((IsTakenLine line → ⊥) × IsCallReported c cause.NoCount events end)
 
   -- `IsOver`: the run ends with status 0.
-  abbrev pub IsOver : Course L G
+  abbrev pub IsOver : Course L G N
   IsOver events end = (events ≡ []) × (end ≡ 0)
 
 -- ---- calls
@@ -114,28 +114,28 @@ module _ {R W : Type 0} (reader : Source R) (writer : Sink W) where
       link.writer left.writer
       × NoReadFailed reader writer link left × NoWriteFailed reader writer link left
 
-module _ {R W G : Type 0} (reader : Source R) (writer : Sink W) where
+module _ {R W G N : Type 0} (reader : Source R) (writer : Sink W) where
   -- `CallsOver c body goes_on link`: the call `c` with `body` is made over `link`, `link` is closed, and the run goes
   -- on by `goes_on` with the reply; or it is reported why there is no reply.
-  abbrev pub CallsOver : RoundCall → List ℕ → (List ℕ → Course (Link R W) G) → Link R W → Course (Link R W) G
+  abbrev pub CallsOver : RoundCall → List ℕ → (List ℕ → Course (Link R W) G N) → Link R W → Course (Link R W) G N
   CallsOver c body goes_on link events end =
-      ((reply : List ℕ) × (left : Link R W) × (rest : List (Event (Link R W) G))
+      ((reply : List ℕ) × (left : Link R W) × (rest : List (Event (Link R W) G N))
       × IsCalled reader writer c body link reply left × (events ≡ closed left ∷ rest) × goes_on reply rest end)
-      ⊎ ((fault : PullFault) × (left : Link R W) × (rest : List (Event (Link R W) G))
+      ⊎ ((fault : PullFault) × (left : Link R W) × (rest : List (Event (Link R W) G N))
       × IsNotCalled reader writer c body link fault left × (events ≡ closed left ∷ rest)
       × IsCallErrorReported c fault rest end)
 
   -- `CallsIfReached c body goes_on came`: like `CallsOver c body goes_on` over the connection in `came`; without one,
   -- it is reported that there is no connection (`IsCallReported`).
-  abbrev pub CallsIfReached : RoundCall → List ℕ → (List ℕ → Course (Link R W) G) → Option (Link R W)
-      → Course (Link R W) G
+  abbrev pub CallsIfReached : RoundCall → List ℕ → (List ℕ → Course (Link R W) G N) → Option (Link R W)
+      → Course (Link R W) G N
   CallsIfReached c body goes_on (Some link) = CallsOver c body goes_on link
   CallsIfReached c body goes_on None = IsCallReported c cause.NotReached
 
   -- `Calls c body goes_on`: the call `c` with `body` is made over a connection that the run opens, and the run goes
   -- on by `goes_on` with the reply, or reports the error and ends.
-  abbrev pub Calls : RoundCall → List ℕ → (List ℕ → Course (Link R W) G) → Course (Link R W) G
-  Calls c body goes_on events end = (came : Option (Link R W)) × (rest : List (Event (Link R W) G))
+  abbrev pub Calls : RoundCall → List ℕ → (List ℕ → Course (Link R W) G N) → Course (Link R W) G N
+  Calls c body goes_on events end = (came : Option (Link R W)) × (rest : List (Event (Link R W) G N))
       × (events ≡ connected c.address.now came ∷ rest) × CallsIfReached c body goes_on came rest end
 
   -- ---- rounds
@@ -143,7 +143,7 @@ module _ {R W G : Type 0} (reader : Source R) (writer : Sink W) where
   -- `Direction first to from goes_on`: the run brings the site at `to` up to date from the one at `from`. The calls
   -- `first`, `first` + 1 and `first` + 2 get the summary of `to`, post the summary to `from`, which replies with a
   -- delta, and post the delta to `to`. Then the run writes the count in the last reply, and goes on by `goes_on`.
-  abbrev pub Direction : ℕ → Bor (List ℕ) → Bor (List ℕ) → Course (Link R W) G → Course (Link R W) G
+  abbrev pub Direction : ℕ → Bor (List ℕ) → Bor (List ℕ) → Course (Link R W) G N → Course (Link R W) G N
   Direction first to from goes_on =
       Calls (record { number = first; call = call.Summary; address = to }) [] (λ summary.
       Calls (record { number = first + 1; call = call.Delta; address = from }) summary (λ delta.
@@ -151,16 +151,16 @@ module _ {R W G : Type 0} (reader : Source R) (writer : Sink W) where
       WritesTaken (record { number = first + 2; call = call.Merge; address = to }) line goes_on)))
 
   -- `IsRound one other`: first the site at `one` is brought up to date, then the one at `other`.
-  abbrev pub IsRound : Bor (List ℕ) → Bor (List ℕ) → Course (Link R W) G
+  abbrev pub IsRound : Bor (List ℕ) → Bor (List ℕ) → Course (Link R W) G N
   IsRound one other = Direction 1 one other (Direction 4 other one IsOver)
 
   -- `IsExchanged options schema`: the bytes `schema` are a schema, and a round between the sites of `options` is made;
   -- or the error of `schema`, or out of memory, is reported, and nothing is sent.
-  abbrev pub IsExchanged : ExchangeOptions → List ℕ → Course (Link R W) G
+  abbrev pub IsExchanged : ExchangeOptions → List ℕ → Course (Link R W) G N
   IsExchanged options schema events end =
       ((s : StatedSchema) × IsSchemaOf schema s × IsRound options.between options.and events end)
       ⊎ IsRefusedFor (IsSchemaRefused schema) events end
 
   -- `IsExchangeRun options`: the schema's file that `options` name is read, and then the exchange is made.
-  abbrev pub IsExchangeRun : ExchangeOptions → Course (Link R W) G
+  abbrev pub IsExchangeRun : ExchangeOptions → Course (Link R W) G N
   IsExchangeRun options = Reads options.schema.now (IsExchanged options)

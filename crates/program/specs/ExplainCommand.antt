@@ -63,10 +63,10 @@ files_named options schema policies entities request = record {
 abbrev pub IsWithoutEnd : List ℕ → List ℕ → Type 0
 IsWithoutEnd text line = (text ≡ ended line) ⊎ ((text ≡ line) × ((front : List ℕ) → text ≡ ended front → ⊥))
 
-module _ {L G : Type 0} where
+module _ {L G N : Type 0} where
   -- `IsCodeExplained word`: the text on the code `word` is printed, or it is reported that there is no such code
   -- (status 2), or out of memory is reported.
-  abbrev pub IsCodeExplained : List ℕ → Course L G
+  abbrev pub IsCodeExplained : List ℕ → Course L G N
   IsCodeExplained word events end =
       ((words : Texts) × AreWordsOn word words × IsAnswerReported (code_text words) events end)
       ⊎ (IsNoCode word × IsReported Faults (codes "error: no code is " ++ word) 2 events end)
@@ -74,7 +74,7 @@ module _ {L G : Type 0} where
 
   -- `AreTextsExplained files`: what is rejected in `files` is printed, and the run ends with 1 if anything is rejected,
   -- else with 0; or out of memory is reported.
-  abbrev pub AreTextsExplained : Files → Course L G
+  abbrev pub AreTextsExplained : Files → Course L G N
   AreTextsExplained files events end =
       ((text : List ℕ) × (line : List ℕ) × IsExplained files text × IsWithoutEnd text line
       × AreLinesReported line (is_some_text text) events end)
@@ -82,7 +82,7 @@ module _ {L G : Type 0} where
 
   -- `AreFilesExplained options`: the files that `options` name are read in the order schema, policies, entities,
   -- request, and what is rejected in them is printed.
-  abbrev pub AreFilesExplained : ExplainOptions → Course L G
+  abbrev pub AreFilesExplained : ExplainOptions → Course L G N
   AreFilesExplained options =
       ReadsIfNamed (option_map (λ s. s.now) options.schema) (λ schema.
       Reads options.what.now (λ policies.
@@ -92,11 +92,11 @@ module _ {L G : Type 0} where
 
   -- `IsExplainedAs is_number options`: if `is_number`, the code that `options` name is explained, else what is rejected
   -- in the files that they name.
-  abbrev pub IsExplainedAs : Bool → ExplainOptions → Course L G
+  abbrev pub IsExplainedAs : Bool → ExplainOptions → Course L G N
   IsExplainedAs true options = IsCodeExplained options.what.now
   IsExplainedAs false options = AreFilesExplained options
 
   -- `IsExplainRun options`: if the argument in `options` is a number, that code is explained, else what is rejected in
   -- files.
-  abbrev pub IsExplainRun : ExplainOptions → Course L G
+  abbrev pub IsExplainRun : ExplainOptions → Course L G N
   IsExplainRun options = IsExplainedAs (is_number options.what.now) options

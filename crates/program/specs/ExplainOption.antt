@@ -75,43 +75,43 @@ IsRefusalText files message refusal text =
 
 -- ---- what a run does
 
-module _ {L G : Type 0} where
+module _ {L G N : Type 0} where
   -- `IsLineWritten line events` holds if `events` are one event, which writes `line` to standard error, whether or not
   -- the stream accepts it.
-  abbrev pub IsLineWritten : List ℕ → List (Event L G) → Type 0
+  abbrev pub IsLineWritten : List ℕ → List (Event L G N) → Type 0
   IsLineWritten line events = (done : Bool) × (events ≡ wrote Faults (ended line) done ∷ [])
 
   -- `AreLinesWritten lines events` holds if `events` write `lines` to standard error; there is no event if `lines` are
   -- empty.
-  abbrev pub AreLinesWritten : List ℕ → List (Event L G) → Type 0
+  abbrev pub AreLinesWritten : List ℕ → List (Event L G N) → Type 0
   AreLinesWritten [] events = events ≡ []
   AreLinesWritten (byte ∷ lines) events = IsLineWritten (byte ∷ lines) events
 
   -- `IsTextWritten text events` holds if `events` write the lines of `text` to standard error.
-  abbrev pub IsTextWritten : List ℕ → List (Event L G) → Type 0
+  abbrev pub IsTextWritten : List ℕ → List (Event L G N) → Type 0
   IsTextWritten text events = (lines : List ℕ) × IsWithoutEnd text lines × AreLinesWritten lines events
 
   -- `IsExplanationWritten Is events` holds if `events` write to standard error a text for which `Is` holds, or the line
   -- which says that it cannot be allocated.
-  abbrev pub IsExplanationWritten : (List ℕ → Type 0) → List (Event L G) → Type 0
+  abbrev pub IsExplanationWritten : (List ℕ → Type 0) → List (Event L G N) → Type 0
   IsExplanationWritten Is events =
       ((text : List ℕ) × Is text × IsTextWritten text events)
       ⊎ IsLineWritten (codes "explanation: out of memory") events
 
   -- `Explains wanted Is course` is `course`, followed, if `wanted`, by a text on standard error for which `Is` holds.
   -- The status is that of `course`.
-  abbrev pub Explains : Bool → (List ℕ → Type 0) → Course L G → Course L G
+  abbrev pub Explains : Bool → (List ℕ → Type 0) → Course L G N → Course L G N
   Explains false Is course events end = course events end
-  Explains true Is course events end = (first behind : List (Event L G)) × course first end
+  Explains true Is course events end = (first behind : List (Event L G N)) × course first end
       × IsExplanationWritten Is behind × (events ≡ first ++ behind)
 
   -- `IsErrorReported refusal`: the error `refusal`, or out of memory, is reported.
-  abbrev pub IsErrorReported : Refusal → Course L G
+  abbrev pub IsErrorReported : Refusal → Course L G N
   IsErrorReported refusal events end = IsRefusalReported refusal events end ⊎ IsMemoryReported events end
 
   -- `IsErrorThenText wanted Is Refused`: an error for which `Refused` holds, or out of memory, is reported. If
   -- `wanted`, a text for which `Is` holds with the error is then written to standard error.
-  abbrev pub IsErrorThenText : Bool → (Refusal → List ℕ → Type 0) → (Refusal → Type 0) → Course L G
+  abbrev pub IsErrorThenText : Bool → (Refusal → List ℕ → Type 0) → (Refusal → Type 0) → Course L G N
   IsErrorThenText false Is Refused events end = IsRefusedFor Refused events end
   IsErrorThenText true Is Refused events end = (refusal : Refusal) × ((refusal ≡ no_memory) ⊎ Refused refusal)
       × Explains true (Is refusal) (IsErrorReported refusal) events end
@@ -119,18 +119,18 @@ module _ {L G : Type 0} where
   -- `IsLineOrErrorThenText wanted Is Decided Refused`: a line for which `Decided` holds is printed, or an error is
   -- reported as by `IsErrorThenText wanted Is Refused`.
   abbrev pub IsLineOrErrorThenText : Bool → (Refusal → List ℕ → Type 0) → (List ℕ → Type 0) → (Refusal → Type 0)
-      → Course L G
+      → Course L G N
   IsLineOrErrorThenText wanted Is Decided Refused events end =
       ((line : List ℕ) × Decided line × IsAnswerReported line events end)
       ⊎ IsErrorThenText wanted Is Refused events end
 
   -- `IsErrorExplained wanted files Refused`: an error for which `Refused` holds, or out of memory, is reported. If
   -- `wanted`, what is rejected in `files` is then explained or, if nothing is, the code of the error.
-  abbrev pub IsErrorExplained : Bool → Files → (Refusal → Type 0) → Course L G
+  abbrev pub IsErrorExplained : Bool → Files → (Refusal → Type 0) → Course L G N
   IsErrorExplained wanted files Refused = IsErrorThenText wanted (IsRefusalText files None) Refused
 
   -- `IsLineOrErrorExplained wanted files Decided Refused`: a line for which `Decided` holds is printed, or an error is
   -- reported as by `IsErrorExplained wanted files Refused`.
-  abbrev pub IsLineOrErrorExplained : Bool → Files → (List ℕ → Type 0) → (Refusal → Type 0) → Course L G
+  abbrev pub IsLineOrErrorExplained : Bool → Files → (List ℕ → Type 0) → (Refusal → Type 0) → Course L G N
   IsLineOrErrorExplained wanted files Decided Refused =
       IsLineOrErrorThenText wanted (IsRefusalText files None) Decided Refused

@@ -55,6 +55,6 @@ IsInitialSiteRefused schema state r = IsSchemaRefused schema r
 -- `IsNotCreated wanted schema_file state_file schema state`: the error of `schema` or the error of `state` (the
 -- contents of `schema_file` and `state_file`), or out of memory, is reported. If `wanted`, what is rejected in the
 -- schema is then explained or, if nothing is, the error of the state, or out of memory by its code.
-abbrev pub IsNotCreated : {L G : Type 0} → Bool → List ℕ → Option (List ℕ) → List ℕ → Option (List ℕ) → Course L G
+abbrev pub IsNotCreated : {L G N : Type 0} → Bool → List ℕ → Option (List ℕ) → List ℕ → Option (List ℕ) → Course L G N
 IsNotCreated wanted schema_file state_file schema state = IsErrorThenText wanted
     (IsRefusalText (schema_files schema_file schema) state_file) (IsInitialSiteRefused schema state)

@@ -24,12 +24,12 @@ load_files options schema policies entities = record {
   request = None;
 }
 
-module _ {L G : Type 0} where
+module _ {L G N : Type 0} where
   -- `IsPutOrRefused options site schema policies entities`: the state of `site` after the puts of `policies` and
   -- `entities` is printed; or it is reported that a file does not parse, that a put is rejected, or that memory ran
   -- out. After an error, `--explain` explains what is rejected in the `load_files` or, if nothing is rejected there,
   -- the code of the error.
-  abbrev pub IsPutOrRefused : LoadOptions → SiteView → List ℕ → Option (List ℕ) → Option (List ℕ) → Course L G
+  abbrev pub IsPutOrRefused : LoadOptions → SiteView → List ℕ → Option (List ℕ) → Option (List ℕ) → Course L G N
   IsPutOrRefused options site schema policies entities =
       IsLineOrErrorExplained options.explain (load_files options schema policies entities)
       (loads.IsLoadedState (schema_of site) site.name (store_in site) policies entities)
@@ -38,7 +38,8 @@ module _ {L G : Type 0} where
   -- `IsLoadedOrRefused options schema state policies entities`: the initial site of `schema` and `state` is created,
   -- and `IsPutOrRefused` holds of it; or, whatever `policies` and `entities` contain, an error is reported: that of
   -- `schema` or `state`, or out of memory. With `--explain` it is explained too.
-  abbrev pub IsLoadedOrRefused : LoadOptions → List ℕ → Option (List ℕ) → Option (List ℕ) → Option (List ℕ) → Course L G
+  abbrev pub IsLoadedOrRefused : LoadOptions → List ℕ → Option (List ℕ) → Option (List ℕ) → Option (List ℕ)
+      → Course L G N
   IsLoadedOrRefused options schema state policies entities events end =
       ((site : SiteView) × IsInitialSite schema options.site state site
       × IsPutOrRefused options site schema policies entities events end)
@@ -46,7 +47,7 @@ module _ {L G : Type 0} where
 
   -- `IsLoadRun options`: the schema's file is read, then the files of the state, the policies and the entities, each
   -- if `options` name it; then `IsLoadedOrRefused` holds of their contents. A failed read is reported and ends the run.
-  abbrev pub IsLoadRun : LoadOptions → Course L G
+  abbrev pub IsLoadRun : LoadOptions → Course L G N
   IsLoadRun options =
       Reads options.schema.now (λ schema.
       ReadsIfNamed (option_map (λ s. s.now) options.state) (λ state.

@@ -29,7 +29,7 @@ use Rattle.program.specs.Courses.{Course, Reads, ReadsIfThere, Connects, Stores}
 -- written into the file that `options` name, and then the number of updates is printed. If the network failed, the
 -- address in `options` is reported. Otherwise the error of a text or of the message is reported. Unless the network
 -- failed, out of memory may be reported instead.
-abbrev pub IsPullReported : {L G : Type 0} → PullOptions → Result Pulled PullFault → Course L G
+abbrev pub IsPullReported : {L G N : Type 0} → PullOptions → Result Pulled PullFault → Course L G N
 IsPullReported options (Ok pulled) events end =
     Stores options.state.now pulled.state.items (IsAnswerReported (taken_report_line pulled.taken)) events end
     ⊎ IsMemoryReported events end
@@ -91,14 +91,14 @@ module _ {R W : Type 0} (reader : Source R) (writer : Sink W) where
 
   -- `IsPulledOver options schema state link` is the course of a pull with the texts `schema` and `state` over the
   -- connection `link` to the address in `options`. The connection is then closed, and the outcome reported.
-  abbrev pub IsPulledOver : {G : Type 0} → PullOptions → List ℕ → Option (List ℕ) → Link R W → Course (Link R W) G
-  IsPulledOver {G} options schema state link events end = (came : Result Pulled PullFault) × (left : Link R W)
+  abbrev pub IsPulledOver : {G N : Type 0} → PullOptions → List ℕ → Option (List ℕ) → Link R W → Course (Link R W) G N
+  IsPulledOver {G} {N} options schema state link events end = (came : Result Pulled PullFault) × (left : Link R W)
       × IsPull schema state options.from.now link came left
-      × ((rest : List (Event (Link R W) G)) × (events ≡ closed left ∷ rest) × IsPullReported options came rest end)
+      × ((rest : List (Event (Link R W) G N)) × (events ≡ closed left ∷ rest) × IsPullReported options came rest end)
 
   -- `IsPullRun options` is a run of `pull`: it reads the schema and then the state, if the file exists, and then opens
   -- the connection. The name of a site in `options` has no effect.
-  abbrev pub IsPullRun : {G : Type 0} → PullOptions → Course (Link R W) G
+  abbrev pub IsPullRun : {G N : Type 0} → PullOptions → Course (Link R W) G N
   IsPullRun options =
       Reads options.schema.now (λ schema.
       ReadsIfThere options.state.now (λ state.

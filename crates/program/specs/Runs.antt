@@ -3,6 +3,7 @@
 -- Source: docs/operating.md.
 use Rattle.std.specs.Prelude.{◌≡◌, ◌⊎◌, ◌&&◌, ℕ, Bool, List, [], Option, None, Some, option_map}
 use Rattle.clap.specs.Words.{Text, fault_of}
+use Rattle.connection_loop.specs.declared.sockets.Sockets.{Ghosts as Sockets}
 use Rattle.program_drills.specs.answer_lines.declared.refusal.Refusal.{Refusal}
 use Rattle.site_loading.specs.decision_texts.BareReading.{bare_reading}
 use Rattle.site_loading.specs.decision_texts.Decisions as bare
@@ -70,17 +71,17 @@ check_files options schema policies = record {
 }
 
 -- Where a sentence of this module says that an error is reported, the error may be out of memory.
-module _ {L G : Type 0} where
+module _ {L G N : Type 0} where
   -- `IsDecidedOrRefused options schema policies entities request`: the answer line of the texts `schema`, `policies`,
   -- `entities` and `request` is printed, or their error is reported and, if `options` have `--explain`, explained.
-  abbrev pub IsDecidedOrRefused : DecideOptions → Option (List ℕ) → List ℕ → List ℕ → List ℕ → Course L G
+  abbrev pub IsDecidedOrRefused : DecideOptions → Option (List ℕ) → List ℕ → List ℕ → List ℕ → Course L G N
   IsDecidedOrRefused options schema policies entities request =
       IsLineOrErrorExplained options.explain (decide_files options schema policies entities request)
       (IsDecided schema policies entities request) (IsNotDecided schema policies entities request)
 
   -- `AreChecked options schema policies`: the lines of `policies` under `schema` are printed, or the error is reported;
   -- if `options` have `--explain`, what is rejected is explained.
-  abbrev pub AreChecked : CheckOptions → List ℕ → List ℕ → Course L G
+  abbrev pub AreChecked : CheckOptions → List ℕ → List ℕ → Course L G N
   AreChecked options schema policies events end =
       ((text : List ℕ) × (some_refused : Bool) × checks.IsChecked schema policies text some_refused
       × Explains (options.explain && some_refused) (IsExplained (check_files options schema policies))
@@ -91,20 +92,20 @@ module _ {L G : Type 0} where
   -- `AreMerged options schema first second`: the state with the updates of `first` and `second`, two messages of
   -- `schema`, is printed, or the error is reported. If `options` have `--explain`, the error is then explained
   -- (`IsMergeText`).
-  abbrev pub AreMerged : MergeOptions → List ℕ → List ℕ → List ℕ → Course L G
+  abbrev pub AreMerged : MergeOptions → List ℕ → List ℕ → List ℕ → Course L G N
   AreMerged options schema first second = IsLineOrErrorThenText options.explain
       (IsMergeText (schema_files options.schema.now schema) options schema first)
       (merges.IsMerged schema first second) (merges.AreRefused schema first second)
 
   -- `IsDrilledOrRefused sites schema script`: the lines of `script`, executed at `sites` sites of `schema`, are
   -- printed, or the error is reported.
-  abbrev pub IsDrilledOrRefused : ℕ → List ℕ → List ℕ → Course L G
+  abbrev pub IsDrilledOrRefused : ℕ → List ℕ → List ℕ → Course L G N
   IsDrilledOrRefused sites schema script =
       IsLineOrRefusal (drills.IsDrilled sites schema script) (drills.IsDrillRefused sites schema script)
 
   -- `IsDecideRun options`: the files that `options` name are read, first the schema, if one is named, then policies,
   -- entities and request; then the request is decided.
-  abbrev pub IsDecideRun : DecideOptions → Course L G
+  abbrev pub IsDecideRun : DecideOptions → Course L G N
   IsDecideRun options =
       ReadsIfNamed (option_map (λ s. s.now) options.schema) (λ schema.
       Reads options.policies.now (λ policies.
@@ -114,13 +115,13 @@ module _ {L G : Type 0} where
 
   -- `IsCheckRun options`: of the files that `options` name, the schema is read, then the policies; then the policies
   -- are checked.
-  abbrev pub IsCheckRun : CheckOptions → Course L G
+  abbrev pub IsCheckRun : CheckOptions → Course L G N
   IsCheckRun options =
       Reads options.schema.now (λ schema. Reads options.policies.now (λ policies. AreChecked options schema policies))
 
   -- `IsMergeRun options`: of the files that `options` name, the schema is read, then the two messages; then the
   -- messages are merged.
-  abbrev pub IsMergeRun : MergeOptions → Course L G
+  abbrev pub IsMergeRun : MergeOptions → Course L G N
   IsMergeRun options =
       Reads options.schema.now (λ schema.
       Reads options.first.now (λ first.
@@ -129,19 +130,19 @@ module _ {L G : Type 0} where
 
   -- `IsDrillRun options`: of the files that `options` name, the schema is read, then the script; then the script is
   -- executed.
-  abbrev pub IsDrillRun : DrillOptions → Course L G
+  abbrev pub IsDrillRun : DrillOptions → Course L G N
   IsDrillRun options =
       Reads options.schema.now (λ schema.
       Reads options.script.now (λ script.
       IsDrilledOrRefused options.sites schema script))
 
-module _ {R W G : Type 0} (reader : Source R) (writer : Sink W) (log : Sink G) where
+module _ {R W G N : Type 0} (reader : Source R) (writer : Sink W) (log : Sink G) (sockets : Sockets N) where
   -- `IsLineRun line`: the command `line` is run.
-  abbrev pub IsLineRun : Line → Course (Link R W) G
+  abbrev pub IsLineRun : Line → Course (Link R W) G N
   IsLineRun (Check options) = IsCheckRun options
   IsLineRun (Decide options) = IsDecideRun options
   IsLineRun (Load options) = IsLoadRun options
-  IsLineRun (Serve options) = IsServeRun reader writer log options
+  IsLineRun (Serve options) = IsServeRun log sockets options
   IsLineRun (Pull options) = IsPullRun reader writer options
   IsLineRun (Exchange options) = IsExchangeRun reader writer options
   IsLineRun (Merge options) = IsMergeRun options
@@ -149,7 +150,7 @@ module _ {R W G : Type 0} (reader : Source R) (writer : Sink W) (log : Sink G) w
   IsLineRun (Explain options) = IsExplainRun options
 
   -- `IsRun words`: the command of the arguments `words` is run, or their error, or out of memory, is reported.
-  abbrev pub IsRun : List Text → Course (Link R W) G
+  abbrev pub IsRun : List Text → Course (Link R W) G N
   IsRun words events end =
       ((line : Line) × IsCommandOf words line × (fault_of site_app words ≡ []) × IsLineRun line events end)
       ⊎ ((fault : LineFault) × IsFaultOf words fault × IsFaultReported fault events end)

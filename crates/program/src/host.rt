@@ -1,15 +1,16 @@
-//! The machine that a run needs: files, two streams, connections, logs and pauses.
+//! The machine that a run needs: files, two streams, connections, sockets and logs.
 ghost use Rattle.std.specs.Prelude.{◌++◌, Ok, Err, Some, None, MatchResult, is_ok};
 ghost use Rattle.program.specs.declared.device.Link.{Link};
-ghost use Rattle.program.specs.Events.{Event, accepted, closed, connected, listened, log_closed, opened, paused};
-ghost use Rattle.program.specs.Events.{printed, read, served, stored, wrote};
+ghost use Rattle.program.specs.Events.{Event, closed, connected, listened, log_closed, opened};
+ghost use Rattle.program.specs.Events.{printed, read, sockets_closed, stored, wrote};
 ghost use Rattle.program.specs.Reports.{ended};
 
 use crate::device::{FileFault, Link, NetworkFailed, Stream, StreamFailed};
-use program_exchanges::{LoggedFault, Sink, Source};
+use connection_loop::sockets::Sockets;
+use program_exchanges::{Sink, Source};
 use program_lines::LineFault;
 
-/// A machine with files, two streams, connections, logs and pauses.
+/// A machine with files, two streams, connections, sockets and logs.
 pub trait Host {
     /// The reader of a connection.
     type Reader: Source + Drop;
@@ -17,14 +18,14 @@ pub trait Host {
     /// The writer of a connection.
     type Writer: Sink + Drop;
 
-    /// A listener, which accepts connections.
-    type Listener: Drop;
+    /// The sockets of a served site: a listener, and one for each connection at once.
+    type Sockets: Sockets + Drop;
 
     /// A log, which gets a line for each reply.
     type Log: Sink + Drop;
 
     // `does old event new` holds if `event` may happen in the state `old` and lead to `new`.
-    ghost does: { Self → Event (Link Self.Reader Self.Writer) Self.Log → Self → Type 0 };
+    ghost does: { Self → Event (Link Self.Reader Self.Writer) Self.Log Self.Sockets → Self → Type 0 };
 
     /// Returns the bytes of a file.
     ///
@@ -83,36 +84,20 @@ pub trait Host {
         ensures { MatchResult result (λ link. does self.old (connected address.now (Some link)) self.new)
             (λ failed. does self.old (connected address.now None) self.new) };
 
-    /// Listens at an address. If `idle` is given, a read or a write of a connection accepted there fails if it takes
-    /// longer than that many seconds.
+    /// Listens at an address, for at most `clients` connections at once.
     ///
     /// # Errors
     ///
     /// - `NetworkFailed`: the address cannot be listened at.
-    fn listen(&mut self, address: &str, idle: Option<u32>) -> Result<Self::Listener, NetworkFailed>
-        ensures { does self.old (listened address.now idle (is_ok result)) self.new };
+    fn listen(&mut self, address: &str, clients: usize) -> Result<Self::Sockets, NetworkFailed>
+        ensures { MatchResult result (λ sockets. does self.old (listened address.now clients (Some sockets)) self.new)
+            (λ failed. does self.old (listened address.now clients None) self.new) };
 
-    /// Waits for the next connection.
-    ///
-    /// # Errors
-    ///
-    /// - `NetworkFailed`: accepting a connection failed. The next call tries again.
-    fn accept(
-        &mut self,
-        listener: &Self::Listener,
-    ) -> Result<Link<Self::Reader, Self::Writer>, NetworkFailed>
-        ensures { MatchResult result (λ link. does self.old (accepted (Some link)) self.new)
-            (λ failed. does self.old (accepted None) self.new) };
+    /// Closes the sockets of a served site.
+    fn close_sockets(&mut self, sockets: Self::Sockets)
+        ensures { does self.old (sockets_closed sockets) self.new };
 
     /// Closes a connection.
     fn close(&mut self, link: Link<Self::Reader, Self::Writer>)
         ensures { does self.old (closed link) self.new };
-
-    /// Records how the serving of a connection ended.
-    fn note_served(&mut self, end: Result<(), LoggedFault>)
-        ensures { does self.old (served end) self.new };
-
-    /// Pauses for `millis` milliseconds.
-    fn pause(&mut self, millis: u64)
-        ensures { does self.old (paused millis) self.new };
 }

@@ -22,7 +22,7 @@ use std::process::ExitCode;
 fn run_line<H: Host>(alloc: Global, host: &mut H, line: &Line<'_>) -> ExitCode
     requires { HasSites line.now }
     ensures { Runs H.does host.old host.new (λ events.
-        IsLineRun H.Reader.Source H.Writer.Sink H.Log.Sink line.now events (exit_status result)) }
+        IsLineRun H.Reader.Source H.Writer.Sink H.Log.Sink H.Sockets.Sockets line.now events (exit_status result)) }
 {
     match line {
         Line::Check(options) => run_check(alloc, host, options),
@@ -46,7 +46,8 @@ fn run_line<H: Host>(alloc: Global, host: &mut H, line: &Line<'_>) -> ExitCode
 /// command, and 3 if a file can't be read or written, or the network or a stream fails.
 pub fn run<H: Host>(alloc: Global, host: &mut H, words: &[String]) -> ExitCode
     ensures { Runs H.does host.old host.new (λ events.
-        IsRun H.Reader.Source H.Writer.Sink H.Log.Sink (map string_bytes words.now) events (exit_status result)) }
+        IsRun H.Reader.Source H.Writer.Sink H.Log.Sink H.Sockets.Sockets (map string_bytes words.now) events
+        (exit_status result)) }
 {
     match line_of(alloc, words) {
         Ok(line) => run_line(alloc, host, &line),

@@ -1,18 +1,19 @@
 //! The machine of a run: the files, standard streams, network and clock of the operating system.
 ghost use Rattle.std.specs.Prelude.{◌++◌, OnOk};
 ghost use Rattle.std.specs.Io.KnownBytes.{Appends};
-ghost use Rattle.program.specs.Events.{Changes, closed, log_closed};
+ghost use Rattle.program.specs.Events.{Changes, closed, log_closed, sockets_closed};
 ghost use Rattle.program.specs.Reports.{ended};
 
 use crate::device::{FileFault, Link, NetworkFailed, Stream, StreamFailed};
 use crate::host::Host;
-use program_exchanges::{Counted, LoggedFault};
+use machine::SystemSockets;
+use program_exchanges::Counted;
 use program_lines::LineFault;
 use std::fs::{File, Files, OpenFile, OpenOptions};
 use std::io::{ErrorKind, Read, Seek, SeekFrom, Write};
-use std::net::{Net, OpenListener, OpenStream, TcpListener, TcpStream};
-use std::time::{Clock, Duration};
-use std::{fs, io, thread};
+use std::net::{Net, OpenStream, TcpStream};
+use std::time::Clock;
+use std::{fs, io};
 
 /// The files, the network and the clock of the system, and writers of standard output and standard error.
 #[derive(Drop)]
@@ -25,6 +26,8 @@ pub struct SystemHost<'a, R, O, E> {
     pub faults: E,
     /// A second writer of standard output, for a log that goes there; `None` once such a log was opened.
     pub lines: Option<O>,
+    /// A second writer of standard error, for warnings of sockets; `None` once there are sockets.
+    pub warnings: Option<E>,
 }
 
 /// Where the lines of a log go: a file, or standard output.
@@ -61,13 +64,6 @@ pub struct LogLines<D> {
     /// Whether the next write first ends the open line, since a write of that line failed or, when the log was opened,
     /// the file ended in a line that was cut off.
     torn: bool,
-}
-
-/// A listener, with a time limit for a read or a write of its connections, if one is given.
-#[derive(Drop)]
-pub struct Listening<L> {
-    listener: L,
-    idle: Option<Duration>,
 }
 
 impl From<io::Error> for StreamFailed {
@@ -128,18 +124,6 @@ fn link<S: Read + Write + OpenStream + Drop>(
         reader: Counted::new(stream),
         writer: Counted::new(writer),
     })
-}
-
-/// Returns the reader and the writer of a connection, with a time limit for its reads and writes, if one is given.
-fn limited_link<S: Read + Write + OpenStream + Drop>(
-    stream: S,
-    idle: Option<Duration>,
-) -> Result<Link<Counted<S>, Counted<S>>, NetworkFailed> {
-    if idle.is_some() {
-        stream.set_read_timeout(idle)?;
-        stream.set_write_timeout(idle)?;
-    }
-    link(stream)
 }
 
 /// Opens a file to append to, and creates it if it is missing.
@@ -211,17 +195,18 @@ impl<D: Write> Write for LogLines<D> {
     }
 }
 
-impl<R: Files + Net + Clock + AllocGlobal, O: Write + Drop, E: Write> Host
-    for SystemHost<'_, R, O, E> {
+impl<'a, R: Files + Net + Clock + AllocGlobal, O: Write + Drop, E: Write + Drop> Host
+    for SystemHost<'a, R, O, E> {
     type Reader = Counted<R::Stream>;
 
     type Writer = Counted<R::Stream>;
 
-    type Listener = Listening<R::Listener>;
+    type Sockets = SystemSockets<'a, R, E>;
 
     type Log = Counted<LogLines<LogDevice<R::File, O>>>;
 
-    ghost does = { λ old event new. Changes O.contents E.contents old.answers old.faults event new.answers new.faults };
+    ghost does = { λ old event new.
+        Changes O.contents E.contents old.answers old.faults event new.answers new.faults };
 
     fn read(&mut self, name: &str) -> Result<Vec<u8>, FileFault> {
         match fs::read(self.files, name) {
@@ -252,8 +237,8 @@ impl<R: Files + Net + Clock + AllocGlobal, O: Write + Drop, E: Write> Host
     }
 
     fn close_log(&mut self, log: Self::Log)
-        ensures { Changes {L = Unit {0}} O.contents E.contents self.old.answers self.old.faults (log_closed log)
-            self.new.answers self.new.faults }
+        ensures { Changes {L = Unit {0}} {N = Unit {0}} O.contents E.contents self.old.answers self.old.faults
+            (log_closed log) self.new.answers self.new.faults }
     {
         drop(log);
     }
@@ -283,40 +268,28 @@ impl<R: Files + Net + Clock + AllocGlobal, O: Write + Drop, E: Write> Host
         }
     }
 
-    fn listen(
-        &mut self,
-        address: &str,
-        idle: Option<u32>,
-    ) -> Result<Self::Listener, NetworkFailed> {
-        match TcpListener::bind(self.files, address) {
-            Ok(listener) => Ok(Listening {
-                listener,
-                idle: idle.map(|seconds| Duration::from_secs(u64::from(seconds))),
-            }),
+    fn listen(&mut self, address: &str, clients: usize) -> Result<Self::Sockets, NetworkFailed> {
+        let Some(warnings) = self.warnings.take() else {
+            return Err(NetworkFailed);
+        };
+        match SystemSockets::listen(self.files, self.files.alloc(), address, clients, warnings) {
+            Ok(sockets) => Ok(sockets),
             Err(_) => Err(NetworkFailed),
         }
     }
 
-    fn accept(
-        &mut self,
-        listener: &Self::Listener,
-    ) -> Result<Link<Self::Reader, Self::Writer>, NetworkFailed> {
-        match listener.listener.accept() {
-            Ok((stream, _)) => limited_link(stream, listener.idle),
-            Err(_) => Err(NetworkFailed),
-        }
+    fn close_sockets(&mut self, mut sockets: Self::Sockets)
+        ensures { Changes {L = Unit {0}} {G = Unit {0}} O.contents E.contents self.old.answers self.old.faults
+            (sockets_closed sockets) self.new.answers self.new.faults }
+    {
+        sockets.finish();
+        drop(sockets);
     }
 
     fn close(&mut self, link: Link<Self::Reader, Self::Writer>)
-        ensures { Changes {G = Unit {0}} O.contents E.contents self.old.answers self.old.faults (closed link)
-            self.new.answers self.new.faults }
+        ensures { Changes {G = Unit {0}} {N = Unit {0}} O.contents E.contents self.old.answers self.old.faults
+            (closed link) self.new.answers self.new.faults }
     {
         drop(link);
-    }
-
-    fn note_served(&mut self, _end: Result<(), LoggedFault>) {}
-
-    fn pause(&mut self, millis: u64) {
-        thread::sleep(self.files, Duration::from_millis(millis))
     }
 }

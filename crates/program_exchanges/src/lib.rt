@@ -27,5 +27,4 @@ pub use pulling::{Pulled, pull_over};
 
 // of lower layers
 pub use http_streams::fetch::FetchFault;
-pub use http_streams::serve::LoggedFault;
 pub use http_streams::{Counted, Kept, Plan, Sink, Source};

@@ -257,11 +257,12 @@ module _ (rows : List Row) where
       × ((text : Text) × IsGivenSite rows text)
       × ((text : Text) × IsGiven rows (codes "listen") text)
       × ((number : Option ℕ) × MayBeGivenNumber rows (codes "connections") 0 4294967295 number)
-      × ((number : Option ℕ) × MayBeGivenNumber rows (codes "idle") 1 86400 number)
+      × ((number : Option ℕ) × MayBeGivenNumber rows (codes "clients") 1 1024 number)
+      × ((number : Option ℕ) × MayBeGivenNumber rows (codes "idle") 0 86400 number)
   of_serve (Check options) is = absurd (check_is_no_serve is.0)
   of_serve (Decide options) is = absurd (decide_is_no_serve is.0)
   of_serve (Load options) is = absurd (serve_is_no_load (sym is.0))
-  of_serve (Serve options) is = ((options.schema.now, is.1.0), (options.site, is.1.1), (options.listen.now, is.1.2), (options.connections, is.1.4), (options.idle, is.1.5))
+  of_serve (Serve options) is = ((options.schema.now, is.1.0), (options.site, is.1.1), (options.listen.now, is.1.2), (options.connections, is.1.4), (options.clients, is.1.5), (options.idle, is.1.6))
   of_serve (Pull options) is = absurd (pull_is_no_serve is.0)
   of_serve (Exchange options) is = absurd (exchange_is_no_serve is.0)
   of_serve (Merge options) is = absurd (merge_is_no_serve is.0)
@@ -366,8 +367,11 @@ module _ (rows : List Row) where
   pub serve_lacks_connections : IsNone (MayBeGivenNumber rows (codes "connections") 0 4294967295) → IsNone (IsLineOf (codes "serve") rows)
   serve_lacks_connections none line is = none (of_serve line is).3.0 (of_serve line is).3.1
 
-  pub serve_lacks_idle : IsNone (MayBeGivenNumber rows (codes "idle") 1 86400) → IsNone (IsLineOf (codes "serve") rows)
-  serve_lacks_idle none line is = none (of_serve line is).4.0 (of_serve line is).4.1
+  pub serve_lacks_clients : IsNone (MayBeGivenNumber rows (codes "clients") 1 1024) → IsNone (IsLineOf (codes "serve") rows)
+  serve_lacks_clients none line is = none (of_serve line is).4.0 (of_serve line is).4.1
+
+  pub serve_lacks_idle : IsNone (MayBeGivenNumber rows (codes "idle") 0 86400) → IsNone (IsLineOf (codes "serve") rows)
+  serve_lacks_idle none line is = none (of_serve line is).5.0 (of_serve line is).5.1
 
   pub pull_lacks_schema : first_of (codes "schema") rows ≡ None → IsNone (IsLineOf (codes "pull") rows)
   pull_lacks_schema none line is = none_given rows (codes "schema") (of_pull line is).0.0 none (of_pull line is).0.1

@@ -43,14 +43,16 @@ decide_app = with_rule (with_rule (with_rule (with_rule (with_rule (new_app (cod
 abbrev pub site_option : Rule
 site_option = demanded (value_option (codes "site"))
 
--- `serve_app` is this command, where NUMBER is below 2^32, and SECONDS is from 1 to 86,400 (a day):
--- serve --schema FILE --site NAME --listen ADDRESS [--state FILE] [--connections NUMBER] [--idle SECONDS] [--log FILE]
--- [--explain]
+-- `serve_app` is this command, where NUMBER is below 2^32, MANY is from 1 to 1,024, and SECONDS is from 0 to 86,400 (a
+-- day):
+-- serve --schema FILE --site NAME --listen ADDRESS [--state FILE] [--connections NUMBER] [--clients MANY]
+-- [--idle SECONDS] [--log FILE] [--explain]
 abbrev pub serve_app : App
-serve_app = with_rule (with_rule (with_rule (with_rule (with_rule (with_rule (with_rule (with_rule
+serve_app = with_rule (with_rule (with_rule (with_rule (with_rule (with_rule (with_rule (with_rule (with_rule
     (new_app (codes "serve")) (demanded (value_option (codes "schema")))) site_option)
     (demanded (value_option (codes "listen")))) (value_option (codes "state")))
-    (number_option (codes "connections") 0 4294967295)) (number_option (codes "idle") 1 86400))
+    (number_option (codes "connections") 0 4294967295)) (number_option (codes "clients") 1 1024))
+    (number_option (codes "idle") 0 86400))
     (value_option (codes "log"))) explain_flag
 
 -- `pull_app` is the command `pull --schema FILE --site NAME --from ADDRESS --state FILE`.

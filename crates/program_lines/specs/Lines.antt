@@ -82,7 +82,8 @@ HasOptions rows (Serve options) =
     × IsGiven rows (codes "listen") options.listen.now
     × (first_of (codes "state") rows ≡ option_map (λ s. s.now) options.state)
     × MayBeGivenNumber rows (codes "connections") 0 4294967295 options.connections
-    × MayBeGivenNumber rows (codes "idle") 1 86400 options.idle
+    × MayBeGivenNumber rows (codes "clients") 1 1024 options.clients
+    × MayBeGivenNumber rows (codes "idle") 0 86400 options.idle
     × (first_of (codes "log") rows ≡ option_map (λ s. s.now) options.log)
     × IsFlag rows (codes "explain") options.explain
 HasOptions rows (Pull options) =

@@ -16,6 +16,9 @@ use std::alloc::Global;
 /// The greatest value of `--connections`.
 pub(crate) const MOST_CONNECTIONS: u64 = 4_294_967_295;
 
+/// The greatest value of `--clients`.
+pub(crate) const MOST_CLIENTS: u64 = 1_024;
+
 /// The greatest value of `--idle`, in seconds: a day.
 pub(crate) const MOST_IDLE: u64 = 86_400;
 
@@ -212,11 +215,13 @@ fn load_command<'a>(alloc: Global) -> Result<Command<'a>, NoMemory>
 fn serve_command<'a>(alloc: Global) -> Result<Command<'a>, NoMemory>
     ensures { IfOk result (IsApp serve_app) }
 {
-    let about = "Serves a site over HTTP, one connection after another";
+    let about = "Serves a site over HTTP, many connections at once";
     let address = "The address to listen at, such as 127.0.0.1:7000";
     let begin = "The initial state or delta; the file is never written";
     let most = "The number of connections to serve before the run ends";
-    let limit = "The longest time of one read or write of a connection, 1 to 86400";
+    let many = "The most connections at once, 1 to 1024; others wait [default: 64]";
+    let limit =
+        "The time without a byte after which a connection is closed, 0 (never) to 86400 [default: 60]";
     let lines = "The log: a line of JSON for each reply, before it is sent; '-' is standard output";
     let name =
         "The site's name, which no other site has or had: 1 to 32 ASCII letters, digits, '-', '_' or '.'";
@@ -230,7 +235,9 @@ fn serve_command<'a>(alloc: Global) -> Result<Command<'a>, NoMemory>
     let command = with(command, value_option(alloc, "state", "FILE", begin));
     let connections = number_option(alloc, "connections", "NUMBER", 0, MOST_CONNECTIONS, most);
     let command = with(command, connections);
-    let idle = number_option(alloc, "idle", "SECONDS", 1, MOST_IDLE, limit);
+    let clients = number_option(alloc, "clients", "NUMBER", 1, MOST_CLIENTS, many);
+    let command = with(command, clients);
+    let idle = number_option(alloc, "idle", "SECONDS", 0, MOST_IDLE, limit);
     let command = with(command, idle);
     let log = value_option(alloc, "log", "FILE", lines);
     let command = with(command, log);

@@ -11,8 +11,8 @@ ghost use Rattle.program_lines.specs.inner.ClapErrors.{IsWhyIncomplete};
 use crate::app::command;
 use crate::fault::{LineFault, line_fault_of};
 use crate::options::{
-    connections_option, flag_in, idle_option, is_given_invalid_site, option_text, site_option,
-    sites_option,
+    clients_option, connections_option, flag_in, idle_option, is_given_invalid_site, option_text,
+    site_option, sites_option,
 };
 use clap::ArgMatches;
 use stamped_store::SiteName;
@@ -51,8 +51,8 @@ pub struct LoadOptions<'a> {
 }
 
 /// The options of `serve`: the name of a schema's file, a site's name, an address, and whether to explain what is
-/// rejected. These are optional: the name of a file with an initial state, the number of connections, the seconds that
-/// each connection may be idle (1 to 86,400), and the name of the log.
+/// rejected. These are optional: the name of a file with an initial state, the number of connections in all, the most
+/// of them at once (1 to 1,024), the seconds that each may be idle (up to 86,400; 0 for ever), and the name of the log.
 #[derive(Clone, Copy)]
 pub struct ServeOptions<'a> {
     pub schema: &'a str,
@@ -60,6 +60,7 @@ pub struct ServeOptions<'a> {
     pub listen: &'a str,
     pub state: Option<&'a str>,
     pub connections: Option<u32>,
+    pub clients: Option<u16>,
     pub idle: Option<u32>,
     pub log: Option<&'a str>,
     pub explain: bool,
@@ -227,6 +228,9 @@ fn serve_line<'a>(options: &ArgMatches<'a>) -> Option<Line<'a>>
     let Some(connections) = connections_option(options) else {
         return None;
     };
+    let Some(clients) = clients_option(options) else {
+        return None;
+    };
     let Some(idle) = idle_option(options) else {
         return None;
     };
@@ -239,6 +243,7 @@ fn serve_line<'a>(options: &ArgMatches<'a>) -> Option<Line<'a>>
         listen,
         state,
         connections,
+        clients,
         idle,
         log,
         explain,
@@ -425,8 +430,8 @@ fn why_incomplete(matches: &ArgMatches<'_>) -> LineFault
 /// Returns the command of the arguments `words`, the first of which is the program's name.
 ///
 /// The command has each of its required options. `--site` has a site name (1 to 32 bytes, each an ASCII letter, a
-/// digit, `-`, `_` or `.`). `--sites` is from 1 to 64, `--connections` from 0 to 4,294,967,295, and `--idle` from 1 to
-/// 86,400.
+/// digit, `-`, `_` or `.`). `--sites` is from 1 to 64, `--connections` from 0 to 4,294,967,295, `--clients` from 1 to
+/// 1,024, and `--idle` from 0 to 86,400.
 ///
 /// # Errors
 ///

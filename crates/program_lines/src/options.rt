@@ -6,7 +6,7 @@ ghost use Rattle.program_lines.specs.Lines.{IsGivenInvalidSite};
 ghost use Rattle.program_lines.specs.Lines.{IsFlag};
 ghost use Rattle.program_lines.specs.inner.NoSuchValue.{IsNone};
 
-use crate::app::{MOST_CONNECTIONS, MOST_IDLE, MOST_SITES};
+use crate::app::{MOST_CLIENTS, MOST_CONNECTIONS, MOST_IDLE, MOST_SITES};
 use clap::ArgMatches;
 use stamped_store::{SiteName, is_site_name};
 
@@ -74,17 +74,33 @@ pub(crate) fn connections_option(options: &ArgMatches<'_>) -> Option<Option<u32>
     }
 }
 
-/// Returns the seconds that a connection may be idle: `Some(Some(n))` for `n` from 1 to 86,400, `Some(None)` if the
+/// Returns the most connections at once: `Some(Some(n))` for `n` from 1 to 1,024, `Some(None)` if the option is absent,
+/// and `None` for another value.
+pub(crate) fn clients_option(options: &ArgMatches<'_>) -> Option<Option<u16>>
+    ensures { MatchOption result
+        (IsNone (MayBeGivenNumber (rows_of (found_of options.now)) (codes "clients") 1 1024))
+        (MayBeGivenNumber (rows_of (found_of options.now)) (codes "clients") 1 1024) }
+{
+    let Some(text) = option_text(options, "clients") else {
+        return Some(None);
+    };
+    match number_in(text, 1, MOST_CLIENTS) {
+        Some(number) => Some(Some(number as u16)),
+        None => None,
+    }
+}
+
+/// Returns the seconds that a connection may be idle: `Some(Some(n))` for `n` from 0 to 86,400, `Some(None)` if the
 /// option is absent, and `None` for another value.
 pub(crate) fn idle_option(options: &ArgMatches<'_>) -> Option<Option<u32>>
     ensures { MatchOption result
-        (IsNone (MayBeGivenNumber (rows_of (found_of options.now)) (codes "idle") 1 86400))
-        (MayBeGivenNumber (rows_of (found_of options.now)) (codes "idle") 1 86400) }
+        (IsNone (MayBeGivenNumber (rows_of (found_of options.now)) (codes "idle") 0 86400))
+        (MayBeGivenNumber (rows_of (found_of options.now)) (codes "idle") 0 86400) }
 {
     let Some(text) = option_text(options, "idle") else {
         return Some(None);
     };
-    match number_in(text, 1, MOST_IDLE) {
+    match number_in(text, 0, MOST_IDLE) {
         Some(number) => Some(Some(number as u32)),
         None => None,
     }

@@ -21,6 +21,10 @@ pub struct Played {
     script: Vec<u8>,
     at: usize,
     clock: u64,
+    /// How many milliseconds pass before the second reading of the clock after a wait.
+    drift: u64,
+    /// How often the clock was read since the last wait.
+    readings: u8,
     peers: Vec<Peer>,
     queue: u8,
     failures: u8,
@@ -44,6 +48,7 @@ fn letter(why: Reason) -> u8 {
     match why {
         Reason::Over => b'O',
         Reason::Broken => b'B',
+        Reason::NoMemory => b'M',
         Reason::Unlogged => b'L',
         Reason::Uncommitted => b'U',
         Reason::Expired(_) => b'E',
@@ -54,9 +59,9 @@ fn letter(why: Reason) -> u8 {
 
 impl Played {
     /// Creates sockets without a connection, at so many slots.
-    pub fn new(alloc: Global, places: usize, script: &[u8]) -> Result<Played, AllocError> {
+    pub fn new(alloc: Global, slots: usize, script: &[u8]) -> Result<Played, AllocError> {
         let mut peers = Vec::new(alloc);
-        for _ in 0..places {
+        for _ in 0..slots {
             let peer = Peer {
                 came: Vec::new(alloc),
                 ended: false,
@@ -73,6 +78,8 @@ impl Played {
             script,
             at: 0,
             clock: 0,
+            drift: 0,
+            readings: 0,
             peers,
             queue: 0,
             failures: 0,
@@ -104,6 +111,7 @@ impl Played {
             b'+' => self.queue = self.queue.wrapping_add(1),
             b'!' => self.failures = self.failures.wrapping_add(1),
             b't' => self.clock = self.clock.wrapping_add(number as u64 * 100),
+            b'k' => self.drift = number as u64,
             b'T' => self.clock = self.clock.wrapping_add(millis.unwrap_or(0)),
             _ => {
                 if let Some(peer) = self.peers.get_mut(slot.wrapping_sub(b'0') as usize) {
@@ -138,6 +146,7 @@ impl Sockets for Played {
     ghost does = { λ old act new. ⊤ };
 
     fn wait(&mut self, millis: Option<u64>) -> Result<(), NetworkFailed> {
+        self.readings = 0;
         if millis == Some(0) {
             return Ok(());
         }
@@ -158,6 +167,11 @@ impl Sockets for Played {
     }
 
     fn now(&mut self) -> u64 {
+        self.readings = self.readings.wrapping_add(1);
+        if self.readings == 2 {
+            self.clock = self.clock.wrapping_add(self.drift);
+            self.drift = 0;
+        }
         self.clock
     }
 
@@ -225,7 +239,8 @@ impl Sockets for Played {
         put(&mut self.notes, &[b'-', digit(at), letter(why)]);
     }
 
-    fn warn(&mut self) {
+    fn warn(&mut self) -> bool {
         put(&mut self.notes, b"W");
+        true
     }
 }

@@ -1,24 +1,56 @@
 //! Scripts, and what the sockets note: `+0` a connection at slot 0, `!` accepting failed, `W` a warning, `[0ab]` these
 //! bytes were written, `-0E` the connection was closed, and why; `~00500` a wait of at most so many milliseconds, `~.`
-//! one without an end; last `.` if the loop ended as it should, or `?` if its wait failed.
+//! one without an end; last `.` if the loop ended as it should, `?` if its wait failed, or `U` if a commit did.
 use crate::played::Played;
 use connection_loop::limits::Limits;
 use connection_loop::serving::serve_all;
+use connection_loop::turn::LoopFault;
 use connections::table::new_table;
 use std::alloc::{AllocError, Global};
 use std::test::Fail;
 use test_connections::{Counter, Lines};
 
-/// Serves a script in a table of so many slots; returns the notes.
-fn served(
-    alloc: Global,
-    places: usize,
+/// How a script is served.
+#[derive(Clone, Copy)]
+struct Setting {
+    /// The number of slots.
+    slots: usize,
+    /// The most bytes of a read.
+    read: usize,
+    /// The number of commits before those that fail.
+    commits: usize,
     limits: Limits,
-    script: &[u8],
-) -> Result<Vec<u8>, AllocError> {
-    let mut slots = new_table(alloc, places)?;
-    let mut sockets = Played::new(alloc, places, script)?;
-    let mut service = Counter::new(99);
+}
+
+impl Setting {
+    /// Returns a setting without limits.
+    fn of(slots: usize) -> Setting {
+        Setting {
+            slots,
+            read: 64,
+            commits: 99,
+            limits: Limits {
+                connections: None,
+                idle: None,
+            },
+        }
+    }
+}
+
+/// Returns the note of the end of a loop.
+fn note_of(end: Result<(), LoopFault>) -> u8 {
+    match end {
+        Ok(()) => b'.',
+        Err(LoopFault::Network) => b'?',
+        Err(LoopFault::Commit) => b'U',
+    }
+}
+
+/// Serves a script; returns the notes.
+fn served(alloc: Global, setting: Setting, script: &[u8]) -> Result<Vec<u8>, AllocError> {
+    let mut slots = new_table(alloc, setting.slots)?;
+    let mut sockets = Played::new(alloc, setting.slots, script)?;
+    let mut service = Counter::new(setting.commits);
     let mut log = Lines::new(alloc, 99);
     let mut chunk = [0; 64];
     let end = serve_all(
@@ -26,30 +58,26 @@ fn served(
         &mut service,
         &mut log,
         &mut sockets,
-        &limits,
-        &mut chunk,
+        &setting.limits,
+        &mut chunk[..setting.read.clamp(1, 64)],
     );
     let mut notes = Vec::from_slice(alloc, sockets.notes())?;
-    notes.push(if end.is_ok() { b'.' } else { b'?' })?;
+    notes.push(note_of(end))?;
     Ok(notes)
 }
 
 #[test]
 fn connections_are_served_together(rt: HostRuntime) -> Result<(), Fail> {
-    let limits = Limits {
-        connections: None,
-        idle: 0,
-    };
     let rows = [
         // two requests at once beside one that comes byte by byte
         (
             &b"+..+..|..<0e<0a<0e<0b<1e|..<1c|.."[..],
-            &b"~.+0+1~.[0a1][0b2]~.[1c3]~.?"[..],
+            &b"~.+0+1~.[0a1][0b2]~10000[1c3]~.?"[..],
         ),
         // a client that takes a byte at a time holds up its own replies alone
         (
             &b"+..+..|..>00<0e<0a<0e<0b<1e<1c|..>01|..<1e<1d>01|..>09|.."[..],
-            &b"~.+0+1~.[1c2]~.[0a]~.[01][1d3]~.[0b4]~.?"[..],
+            &b"~.+0+1~.[1c2]~10000[0a]~10000[01][1d3]~10000[0b4]~.?"[..],
         ),
         // a client that sends no more is served to its end, and its slot is free for the next
         (
@@ -59,21 +87,20 @@ fn connections_are_served_together(rt: HostRuntime) -> Result<(), Fail> {
         // a read that fails, and a write that fails, end their own connections
         (
             &b"+..+..+..|..x0.>10<1e<1a|..x1.|..<2e<2b|.."[..],
-            &b"~.+0+1+2~.-0B~.-1B~.[2b2]~.?"[..],
+            &b"~.+0+1+2~.-0B~10000-1B~.[2b2]~.?"[..],
         ),
     ];
     for (script, wanted) in rows {
-        assert_eq!(rt; served(rt.alloc(), 3, limits, script)?.as_slice(), wanted);
+        assert_eq!(rt;
+            served(rt.alloc(), Setting::of(3), script)?.as_slice(),
+            wanted
+        );
     }
     Ok(())
 }
 
 #[test]
 fn limits_of_time_act(rt: HostRuntime) -> Result<(), Fail> {
-    let limits = Limits {
-        connections: None,
-        idle: 5_000,
-    };
     let rows = [
         // five seconds without a byte; a byte in time gives five more
         (3, &b"+..|..T..|.."[..], &b"~.+0~05000-0E~.?"[..]),
@@ -95,9 +122,33 @@ fn limits_of_time_act(rt: HostRuntime) -> Result<(), Fail> {
             &b"~.+0~05000~05000~04100[0a1]~01000-0R+0~05000?"[..],
         ),
     ];
-    for (places, script, wanted) in rows {
+    for (slots, script, wanted) in rows {
+        let mut setting = Setting::of(slots);
+        setting.limits.idle = Some(5_000);
+        assert_eq!(rt; served(rt.alloc(), setting, script)?.as_slice(), wanted);
+    }
+    Ok(())
+}
+
+#[test]
+fn requests_have_a_limit_without_a_limit_of_silence(rt: HostRuntime) -> Result<(), Fail> {
+    let rows = [
+        // a silent client stays, and one whose request is late is closed
+        (
+            2,
+            &b"+..|..t.9|..<0e|..T..|.."[..],
+            &b"~.+0~.~.~10000-0E~.?"[..],
+        ),
+        // one slot alone serves one client after another, and closes none for the sake of others
+        (
+            1,
+            &b"+..+..|..<0e|..t.9t.9|..e0.|.."[..],
+            &b"~.+0~.~.~.-0O+0~.?"[..],
+        ),
+    ];
+    for (slots, script, wanted) in rows {
         assert_eq!(rt;
-            served(rt.alloc(), places, limits, script)?.as_slice(),
+            served(rt.alloc(), Setting::of(slots), script)?.as_slice(),
             wanted
         );
     }
@@ -105,14 +156,24 @@ fn limits_of_time_act(rt: HostRuntime) -> Result<(), Fail> {
 }
 
 #[test]
-fn one_slot_without_limits_serves_one_after_another(rt: HostRuntime) -> Result<(), Fail> {
-    let limits = Limits {
-        connections: None,
-        idle: 0,
-    };
-    let script = b"+..+..|..t.9t.9|..e0.|..".as_slice();
-    let wanted = b"~.+0~.~.-0O+0~.?".as_slice();
-    assert_eq!(rt; served(rt.alloc(), 1, limits, script)?.as_slice(), wanted);
+fn requests_that_came_in_one_piece_are_answered_without_another(
+    rt: HostRuntime,
+) -> Result<(), Fail> {
+    let mut setting = Setting::of(1);
+    setting.read = 3;
+    let script = b"+..|..<0e<0a<0e<0b|..".as_slice();
+    let wanted = b"~.+0~.[0a1][0b2]~.?".as_slice();
+    assert_eq!(rt; served(rt.alloc(), setting, script)?.as_slice(), wanted);
+    Ok(())
+}
+
+#[test]
+fn the_first_commit_that_fails_ends_the_loop(rt: HostRuntime) -> Result<(), Fail> {
+    let mut setting = Setting::of(3);
+    setting.commits = 1;
+    let script = b"+..+..|..<0e<0a|..<0e<0b<1e<1c|..+..|..".as_slice();
+    let wanted = b"~.+0+1~.[0a1]~.-0U-1UU".as_slice();
+    assert_eq!(rt; served(rt.alloc(), setting, script)?.as_slice(), wanted);
     Ok(())
 }
 
@@ -131,6 +192,8 @@ fn accepting_fails_and_ends(rt: HostRuntime) -> Result<(), Fail> {
             &b"+..|..!..!..|..T..|..<0e<0a|..T..+..|.."[..],
             &b"~.+0~.!W~00001!~00002[0a1]~00002+1~.?"[..],
         ),
+        // a pause that ends while the loop works, between two readings of the clock, is not slept over
+        (3, &b"+..!..k.1|..|.."[..], &b"~.!W+0~.~.?"[..]),
         // two connections are accepted, and no third; the loop ends when they are gone
         (
             2,
@@ -139,11 +202,9 @@ fn accepting_fails_and_ends(rt: HostRuntime) -> Result<(), Fail> {
         ),
     ];
     for (connections, script, wanted) in rows {
-        let limits = Limits {
-            connections: Some(connections),
-            idle: 0,
-        };
-        assert_eq!(rt; served(rt.alloc(), 3, limits, script)?.as_slice(), wanted);
+        let mut setting = Setting::of(3);
+        setting.limits.connections = Some(connections);
+        assert_eq!(rt; served(rt.alloc(), setting, script)?.as_slice(), wanted);
     }
     Ok(())
 }

@@ -6,12 +6,12 @@
 mod counter;
 mod hungry;
 mod lines;
-mod places;
+mod scripts;
 
 pub use counter::Counter;
 pub use hungry::Hungry;
 pub use lines::Lines;
-pub use places::{event_of, play, ready_table};
+pub use scripts::{event_of, play, ready_table};
 
 #[cfg(test)]
 mod requests;

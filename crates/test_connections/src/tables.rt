@@ -7,12 +7,14 @@ ghost use Rattle.test_connections.specs.Pairs.{IsLess};
 use crate::counter::Counter;
 use crate::hungry::Hungry;
 use crate::lines::Lines;
-use crate::places::{play, ready_table};
+use crate::scripts::{play, ready_table};
 use connections::event::{Event, handle};
 use connections::laws::tables_are_ready;
 use connections::limits::{next_wait, slowest, victim};
 use connections::slot::{Limit, Reason, Slot};
-use connections::table::{arrive, ask, close, end, new_table, open, reserve, round, take};
+use connections::table::{
+    arrive, ask, close, end, is_crowded, is_one_unasked, new_table, open, reserve, round, take,
+};
 use connections::{MAX_LONG, MAX_READ};
 use std::alloc::{AllocError, Global};
 use std::test::Fail;
@@ -140,6 +142,14 @@ fn scripts_have_their_outcomes(rt: HostRuntime) -> Result<(), Fail> {
         // the time that the server takes closes nobody: a reply is offered eight seconds after its request came
         (9, 9, &b"o0.0r0.0=0a0.0.0w0.8E0.0"[..], &b"+a1-- a;"[..]),
         (9, 9, &b"o0.0r0.0=0a0.0.0w0.3w0.8E0.0"[..], &b"--- a;"[..]),
+        // nor is one closed whose client ended its side
+        (9, 9, &b"o0.0r0.0<0e0.0.0w0.6f0.9E0.9"[..], &b"+-- "[..]),
+        // which is over at once, before a round, if nothing waits
+        (9, 9, &b"o0.0f0.0O0.0"[..], &b"--- "[..]),
+        // with no limit of silence a connection stays, and a request still has its time
+        (9, 9, &b"o0.0o1.0r1.0<1e0.0.0w0.;w1.;e0.0"[..], &b"+-- "[..]),
+        // memory is refused for a read alone
+        (9, 9, &b"o0.0o1.0r1.0=1a0.0.0M0.0"[..], &b"-+a1- a;"[..]),
         // nor is a connection idle that has taken its reply and was not asked since
         (9, 9, &b"o0.0w0.1r0.0=0a1.0.0*0.1R0.9"[..], &b"+-- a;"[..]),
         (
@@ -181,8 +191,8 @@ fn opened(slots: &mut [Slot]) -> [bool; 3] {
 fn read(slots: &mut [Slot]) -> Result<[bool; 7], AllocError> {
     let asked = ask(slots, 0, 1);
     let free = ask(slots, 1, 1);
-    let reserved = reserve(slots, 0)?;
-    let unreserved = reserve(slots, 1)?;
+    let reserved = reserve(slots, 0, 1)?;
+    let unreserved = reserve(slots, 1, 1)?;
     let nothing = arrive(slots, 0, b"", 1);
     let some = arrive(slots, 0, b"e", 1);
     Ok([
@@ -212,11 +222,11 @@ fn closed(slots: &mut [Slot]) -> [bool; 6] {
 /// Returns whether memory is reserved for a read at the first slot; if an allocation fails, whether the table is as it
 /// was, and the next try reserves it.
 fn reserves_again(slots: &mut [Slot]) -> Result<bool, AllocError> {
-    match reserve(slots, 0) {
+    match reserve(slots, 0, 0) {
         Ok(done) => Ok(done),
         Err(_) => {
             let unchanged = slots.len() > 0 && slots[0].is_open() && slots[0].spare() == 0;
-            Ok(reserve(slots, 0)? && unchanged)
+            Ok(reserve(slots, 0, 0)? && unchanged)
         }
     }
 }
@@ -246,8 +256,8 @@ fn ended(alloc: Global, slots: &mut [Slot], script: &[u8]) -> Result<usize, Allo
     Ok(round(slots, 0, &mut service, &mut log).end)
 }
 
-/// Opens a connection, and reads as much as is permitted, up to more than a short request; returns whether more may be
-/// read.
+/// Opens a connection, and reads as much as is permitted, up to more than a short request, one piece each second;
+/// returns whether more may be read.
 fn filled(alloc: Global, slots: &mut [Slot], at: usize, piece: &[u8]) -> Result<bool, AllocError>
     requires { AreReady IsShort slots.old }
     ensures { AreReady IsShort slots.new }
@@ -255,22 +265,28 @@ fn filled(alloc: Global, slots: &mut [Slot], at: usize, piece: &[u8]) -> Result<
     let mut service = Hungry {};
     let mut log = Lines::new(alloc, 0);
     handle(slots, &mut service, &mut log, &Event::Accepted(at, 0))?;
-    for _ in 0..6 {
-        handle(slots, &mut service, &mut log, &Event::Readied(at))?;
+    for turn in 0..6 {
+        let now = turn * 1_000;
+        handle(slots, &mut service, &mut log, &Event::Readied(at, now))?;
         let bytes = Vec::from_slice(alloc, piece)?;
-        handle(slots, &mut service, &mut log, &Event::Arrived(at, bytes, 0))?;
+        handle(
+            slots,
+            &mut service,
+            &mut log,
+            &Event::Arrived(at, bytes, now),
+        )?;
         handle(slots, &mut service, &mut log, &Event::Round(0))?;
     }
-    handle(slots, &mut service, &mut log, &Event::Readied(at))?;
+    handle(slots, &mut service, &mut log, &Event::Readied(at, 5_000))?;
     Ok(at < slots.len() && slots[at].spare() > 0)
 }
 
-/// Creates a table of `places` free slots for the service that waits for the longest request.
-fn hungry_table(alloc: Global, places: usize) -> Result<Vec<Slot>, AllocError>
+/// Creates a table of `count` free slots for the service that waits for the longest request.
+fn hungry_table(alloc: Global, count: usize) -> Result<Vec<Slot>, AllocError>
     ensures { IfOk result (λ table. AreReady IsShort table.items) }
 {
     tables_are_ready::<Hungry>();
-    new_table(alloc, places)
+    new_table(alloc, count)
 }
 
 #[test]
@@ -288,6 +304,18 @@ fn few_connections_hold_many_bytes(rt: HostRuntime) -> Result<(), Fail> {
     Ok(())
 }
 
+#[test]
+fn a_permit_restarts_the_time(rt: HostRuntime) -> Result<(), Fail> {
+    let alloc = rt.alloc();
+    let mut slots = hungry_table(alloc, 1)?;
+    assert!(rt; filled(alloc, &mut slots, 0, &[b'e'; MAX_READ])?);
+    assert!(rt; ask(&mut slots, 0, 6_000));
+    // the sixth read, at five seconds, needs a permit; the request has 10 s from then, and a millisecond for each four
+    // bytes beyond those of one read
+    assert!(rt; next_wait(&slots, Limit::Room, 6_000) == Some(29_480));
+    Ok(())
+}
+
 /// Returns a slot as a number.
 fn slot_of(at: Option<usize>) -> Option<u64> {
     match at {
@@ -299,12 +327,14 @@ fn slot_of(at: Option<usize>) -> Option<u64> {
 /// Answers a question about the times of a table.
 fn asked(slots: &[Slot], what: u8, now: u64) -> Option<u64> {
     match what {
-        b'e' => next_wait(slots, Limit::Expiry(60_000), now),
-        b's' => next_wait(slots, Limit::Expiry(5_000), now),
-        b'0' => next_wait(slots, Limit::Expiry(0), now),
+        b'e' => next_wait(slots, Limit::Expiry(Some(60_000)), now),
+        b's' => next_wait(slots, Limit::Expiry(Some(5_000)), now),
+        b'0' => next_wait(slots, Limit::Expiry(None), now),
         b'r' => next_wait(slots, Limit::Room, now),
         b'k' => next_wait(slots, Limit::Crowd, now),
         b'l' => slot_of(slowest(slots)),
+        b'u' => Some(is_one_unasked(slots) as u64),
+        b'c' => Some(is_crowded(slots) as u64),
         _ => slot_of(victim(slots)),
     }
 }
@@ -325,7 +355,7 @@ fn connections_expire_and_make_room(rt: HostRuntime) -> Result<(), Fail> {
         // the request at slot 1 is late at 11 s, before its connection is silent for a minute
         (idle, b'e', 1_600, Some(9_400)),
         (idle, b's', 1_600, Some(4_400)),
-        (idle, b'0', 1_600, None),
+        (idle, b'0', 1_600, Some(9_400)),
         (idle, b'r', 1_600, Some(400)),
         (idle, b'r', 9_600, Some(0)),
         // the one idle longest, of two the lower; then the one that is late; each as far as it was asked
@@ -341,6 +371,15 @@ fn connections_expire_and_make_room(rt: HostRuntime) -> Result<(), Fail> {
         (b"o1.0r1.0=1a0.0.0w1.2w1.<".as_slice(), b'v', 0, Some(1)),
         (b"o1.0r1.0=1a0.0.0w1.2".as_slice(), b'l', 0, None),
         (b"o1.0r1.0=1a0.0.0w1.2w1.3".as_slice(), b'l', 0, Some(1)),
+        // a client is unasked until a read or a write gave nothing, and again after a byte
+        (b"o0.0".as_slice(), b'u', 0, Some(1)),
+        (b"o0.0w0.1".as_slice(), b'u', 0, Some(0)),
+        (b"o0.0w0.1r0.0<0e0.0.0".as_slice(), b'u', 0, Some(1)),
+        (b"o0.0w0.1f0.1".as_slice(), b'u', 0, Some(0)),
+        (b"o0.0r0.0=0a0.0.0".as_slice(), b'u', 0, Some(1)),
+        (b"o0.0r0.0=0a0.0.0w0.1".as_slice(), b'u', 0, Some(0)),
+        // few bytes are unsent
+        (b"o0.0r0.0=0a0.0.0".as_slice(), b'c', 0, Some(0)),
     ];
     for (script, what, now, wanted) in rows {
         assert!(rt; answer(alloc, script, what, now)? == wanted, "at {now}");

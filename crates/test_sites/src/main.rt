@@ -32,6 +32,9 @@
 //! - `cuts STREAM` prints, as `serve` does, the outcome if two reads cut the stream after its first byte, after its
 //!   second byte, and so on; and then the outcomes if the second of these reads fails. Equal consecutive outcomes are
 //!   printed once, as by `prefixes`.
+//! - `together PIECES` serves an empty site over three connections at once, with a log, and prints the code of the
+//!   error, the site's state, what the sockets note (test_connection_loop), and what the log has. ` ¶ ` separates
+//!   pieces, which come one after another; a piece is the number of its connection, from 0, and bytes.
 //!
 //! A case of another form has the outcome `bad row`, and one for which an allocation fails `no memory`. An error is
 //! printed as `refused`, its code, its place and the code of its inner error, with `-` for what it does not have. In an
@@ -53,6 +56,7 @@ mod prefixes;
 mod repeats;
 mod replies;
 mod streams;
+mod together;
 mod worlds;
 mod written;
 
@@ -75,6 +79,7 @@ fn push_outcome(alloc: Global, given: &mut Given, row: &str, line: &mut Line) {
         "serve" | "reads" | "writes" | "logs" | "cuts" => {
             streams::push_stream(alloc, given.schema(), word, text, line)
         }
+        "together" => together::push_together(alloc, given.schema(), text, line),
         "prefixes" => prefixes::push_prefixes(alloc, given, text, line),
         "network" => network::push_network(text, line),
         "standing" | "tried" => given.push_measure(word, text, line),

@@ -4,9 +4,9 @@ use Rattle.std.specs.Prelude.{◌≡◌, ℕ, List}
 use Rattle.connections.specs.Connections.{Connection, MayRead}
 use Rattle.connections.specs.declared.TheConstants.{MAX_READ}
 use Rattle.connection_loop.specs.Acts.{Act, AreDone, NotAccepted}
-use Rattle.connection_loop.specs.Happenings.{after_act, calls_of}
+use Rattle.connection_loop.specs.Happenings.{Happening, after_act, calls_of}
 use Rattle.connection_loop.specs.Phases.{Phase}
-use Rattle.connection_loop.specs.Turns.{IsReading, IsSomeAt, IsTry, warning}
+use Rattle.connection_loop.specs.Turns.{IsReading, IsSomeAt, IsTry, IsWarning}
 use Rattle.connection_loop.specs.declared.course.Course.{Course}
 
 -- `IsATry at` is the phase of one attempt to accept a connection at the slot `at`.
@@ -16,7 +16,8 @@ IsATry at c table hs = IsTry c.pause at hs
 -- `IsAFailure does old first new last` holds if, after accepting failed, the loop warned if it is to, and remembers so.
 abbrev pub IsAFailure : {N : Type 0} → (N → Act → N → Type 0) → Course → N → Course → N → Type 0
 IsAFailure does old first new last =
-    (new ≡ after_act old NotAccepted) × AreDone does (calls_of (warning old.pause)) first last
+    (warning : List Happening) × (new ≡ after_act old NotAccepted) × IsWarning old.pause warning
+    × AreDone does (calls_of warning) first last
 
 -- `IsReserved at table` holds if the connection at the slot `at` may be read from, and memory is reserved for this.
 abbrev pub IsReserved : ℕ → List Connection → Type 0

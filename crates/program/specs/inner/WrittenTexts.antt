@@ -7,6 +7,6 @@ use Rattle.program.specs.ExplainOption.{IsLineWritten, IsTextWritten}
 
 -- `IsMadeWritten made events` holds if `events` write the text `made` or, if `made` is an error, the line that says
 -- that the explanation could not be allocated.
-abbrev pub IsMadeWritten : {L G E : Type 0} → Result (String Global) E → List (Event L G) → Type 0
+abbrev pub IsMadeWritten : {L G N E : Type 0} → Result (String Global) E → List (Event L G N) → Type 0
 IsMadeWritten (Ok text) events = IsTextWritten (string_bytes text) events
 IsMadeWritten (Err error) events = IsLineWritten (codes "explanation: out of memory") events

@@ -19,4 +19,4 @@ returns-in-Ok-false g c =
 pub returns-in-Err : goal.returns-in-Err
 returns-in-Err g c =
     not_accepted g.N.Sockets.does c.args.course.now c.args.at c.args.slots.now c.args.sockets.now c.note_failure.new.sockets c.accept.new.self
-    c.note_failure.new.course c.in-Err.ensures c.note_failure.ensures.0 c.note_failure.ensures.1
+    c.note_failure.new.course c.in-Err.ensures c.note_failure.ensures

@@ -20,12 +20,12 @@ returns-in-Accepted-clause-ready g c =
 pub returns-in_ok-reserve-in-Readied-clause-ok : goal.returns-in_ok-reserve-in-Readied-clause-ok
 returns-in_ok-reserve-in-Readied-clause-ok g c =
     let s = g.S.Service in
-    let x = made (Steps s.answers s.lines s.commits s.commit_fails) (Notes g.L.Log.writes g.L.Log.cuts) c.args.slots.now c.reserve.new.slots c.args.service.now c.args.log.now c.in-Readied.at Reserved (MayReserve c.args.slots.now) c.in_ok-reserve-in-Readied.field-0 refl refl refl c.in_ok-reserve-in-Readied.ensures.ok in
+    let x = made (Steps s.answers s.lines s.commits s.commit_fails) (Notes g.L.Log.writes g.L.Log.cuts) c.args.slots.now c.reserve.new.slots c.args.service.now c.args.log.now c.in-Readied.at (Reserved c.in-Readied.now) (MayReserve c.args.slots.now) c.in_ok-reserve-in-Readied.field-0 refl refl refl c.in_ok-reserve-in-Readied.ensures.ok in
     record { entries = x.0; leads = x.1; cause = subst (λ (e : Event). IsCause s.is_unfinished e c.args.slots.now x.0 c.reserve.new.slots) (sym c.in-Readied.is) x.2 }
 
 pub returns-in_ok-reserve-in-Readied-clause-ready : goal.returns-in_ok-reserve-in-Readied-clause-ready
 returns-in_ok-reserve-in-Readied-clause-ready g c =
-    made_ready g.S.Service.is_unfinished c.tables_are_ready.ensures c.in_ok-reserve-in-Readied.field-0 c.in-Readied.at Reserved (MayReserve c.args.slots.now) c.args.slots.now c.reserve.new.slots (λ n. n) c.in_ok-reserve-in-Readied.ensures.ok c.requires
+    made_ready g.S.Service.is_unfinished c.tables_are_ready.ensures c.in_ok-reserve-in-Readied.field-0 c.in-Readied.at (Reserved c.in-Readied.now) (MayReserve c.args.slots.now) c.args.slots.now c.reserve.new.slots (λ n. n) c.in_ok-reserve-in-Readied.ensures.ok c.requires
 
 pub returns-in-Arrived-clause-ok : goal.returns-in-Arrived-clause-ok
 returns-in-Arrived-clause-ok g c =

@@ -49,10 +49,11 @@ returns-in_err-handle-clause-err g c =
       take i events,
       drop (i + 1) events,
       reading.0,
+      reading.1,
       sym (take-append-drop (i + 1) events)
           ∙ ap (λ (t : List Event). t ++ drop (i + 1) events) (take_more events i c.event-item.result c.loop-event-test.true)
           ∙ append_assoc (take i events) (get_or events i c.event-item.result ∷ []) (drop (i + 1) events)
-          ∙ ap (λ (e : Event). take i events ++ e ∷ drop (i + 1) events) (sym c.event-item.is ∙ reading.1),
+          ∙ ap (λ (e : Event). take i events ++ e ∷ drop (i + 1) events) (sym c.event-item.is ∙ reading.2),
       subst (λ (t : List Connection). IsServed (Steps s.answers s.lines s.commits s.commit_fails) (Notes g.L.Log.writes g.L.Log.cuts) s.is_unfinished (take i events)
           c.args.slots.now c.args.service.now c.args.log.now t c.handle.new.service c.handle.new.log) (sym same.0)
           (subst (λ t. IsServed (Steps s.answers s.lines s.commits s.commit_fails) (Notes g.L.Log.writes g.L.Log.cuts) s.is_unfinished (take i events)

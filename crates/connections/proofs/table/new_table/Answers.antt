@@ -18,5 +18,5 @@ loop-preserved c =
     let is : new ≡ table ++ c.in_ok-slot.slot ∷ [] = c.in-Ok.ensures.items in
     record {
       free = subst (λ (t : List Connection). AreFree t) (sym is) (free_more table c.in_ok-slot.slot so.free c.in_ok-slot.ensures);
-      places = one_more table new c.in_ok-slot.slot c.loop.counter is so.places;
+      count = one_more table new c.in_ok-slot.slot c.loop.counter is so.count;
     }

@@ -3,4 +3,4 @@ use Rattle.connections.specs.Stories.{AreFree}
 use Rattle.connections.proofs.table.new_table.Given as goal
 
 abbrev pub invariant-loop : goal.invariant-loop
-invariant-loop l = record { free : AreFree l.slots.items; places : length l.slots.items ≡ l.counter }
+invariant-loop l = record { free : AreFree l.slots.items; count : length l.slots.items ≡ l.counter }

@@ -9,4 +9,4 @@ returns-clause-ok c =
     let d = c.index-slots-at.result in
     let here = slice_get-get_or c.args.slots.now c.args.at d (omega (arith, c.if-at-slots.false)) in
     let may = c.may_reserve.ensures.yes c.if-not-may_reserve.false (get_or c.args.slots.now c.args.at d) here in
-    written c.args.at Reserved c.args.slots.now d c.reserve.new.self (omega (arith, c.if-at-slots.false)) (c.in_ok-reserve.ensures.ok) may.1
+    written c.args.at (Reserved c.args.now) c.args.slots.now d c.reserve.new.self (omega (arith, c.if-at-slots.false)) (c.in_ok-reserve.ensures.ok) may.1

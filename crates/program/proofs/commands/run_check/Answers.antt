@@ -6,7 +6,7 @@ use Rattle.program.proofs.EventLemmas.{reads_on, reads_none}
 use Rattle.program.proofs.commands.run_check.Goals as goal
 
 -- what is left to do once the schema is read
-abbrev over_schema : {L G : Type 0} → CheckOptions → List ℕ → Course L G
+abbrev over_schema : {L G N : Type 0} → CheckOptions → List ℕ → Course L G N
 over_schema options schema = Reads options.policies.now (AreChecked options schema)
 
 pub returns-in-Err : goal.returns-in-Err

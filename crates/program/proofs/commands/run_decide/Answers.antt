@@ -6,13 +6,13 @@ use Rattle.program.proofs.EventLemmas.{named_on, named_none, reads_on, reads_non
 use Rattle.program.proofs.commands.run_decide.Goals as goal
 
 -- what is left to do once the entities are read, once the policies are, and once the schema is
-abbrev over_entities : {L G : Type 0} → DecideOptions → Option (List ℕ) → List ℕ → List ℕ → Course L G
+abbrev over_entities : {L G N : Type 0} → DecideOptions → Option (List ℕ) → List ℕ → List ℕ → Course L G N
 over_entities options schema policies entities = Reads options.request.now (IsDecidedOrRefused options schema policies entities)
 
-abbrev over_policies : {L G : Type 0} → DecideOptions → Option (List ℕ) → List ℕ → Course L G
+abbrev over_policies : {L G N : Type 0} → DecideOptions → Option (List ℕ) → List ℕ → Course L G N
 over_policies options schema policies = Reads options.entities.now (over_entities options schema policies)
 
-abbrev over_schema : {L G : Type 0} → DecideOptions → Option (List ℕ) → Course L G
+abbrev over_schema : {L G N : Type 0} → DecideOptions → Option (List ℕ) → Course L G N
 over_schema options schema = Reads options.policies.now (over_policies options schema)
 
 pub returns-in-Err : goal.returns-in-Err

@@ -9,7 +9,7 @@ use Rattle.program.proofs.RefusalLemmas.{line_refused}
 use Rattle.program.proofs.drills.run_drill.Goals as goal
 
 -- what is left to do once the schema is read
-abbrev over_schema : {L G : Type 0} → DrillOptions → List ℕ → Course L G
+abbrev over_schema : {L G N : Type 0} → DrillOptions → List ℕ → Course L G N
 over_schema options schema = Reads options.script.now (IsDrilledOrRefused options.sites schema)
 
 pub returns-in-Err : goal.returns-in-Err

@@ -9,17 +9,17 @@ use Rattle.program.proofs.EventLemmas.{reads_on, reads_none, named_on, named_non
 use Rattle.program.proofs.explaining.explain_files.Goals as goal
 
 -- what is left to do once the request is read, the entities, the policies, or the schema
-abbrev over_request : {L G : Type 0} → ExplainOptions → Option (List ℕ) → List ℕ → Option (List ℕ) → Option (List ℕ) → Course L G
+abbrev over_request : {L G N : Type 0} → ExplainOptions → Option (List ℕ) → List ℕ → Option (List ℕ) → Option (List ℕ) → Course L G N
 over_request options schema policies entities request = AreTextsExplained (files_named options schema policies entities request)
 
-abbrev over_entities : {L G : Type 0} → ExplainOptions → Option (List ℕ) → List ℕ → Option (List ℕ) → Course L G
+abbrev over_entities : {L G N : Type 0} → ExplainOptions → Option (List ℕ) → List ℕ → Option (List ℕ) → Course L G N
 over_entities options schema policies entities =
     ReadsIfNamed (option_map (λ s. s.now) options.request) (over_request options schema policies entities)
 
-abbrev over_policies : {L G : Type 0} → ExplainOptions → Option (List ℕ) → List ℕ → Course L G
+abbrev over_policies : {L G N : Type 0} → ExplainOptions → Option (List ℕ) → List ℕ → Course L G N
 over_policies options schema policies = ReadsIfNamed (option_map (λ s. s.now) options.entities) (over_entities options schema policies)
 
-abbrev over_schema : {L G : Type 0} → ExplainOptions → Option (List ℕ) → Course L G
+abbrev over_schema : {L G N : Type 0} → ExplainOptions → Option (List ℕ) → Course L G N
 over_schema options schema = Reads options.what.now (over_policies options schema)
 
 pub returns-in-Err : goal.returns-in-Err

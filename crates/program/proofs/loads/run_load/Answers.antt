@@ -6,17 +6,17 @@ use Rattle.program.proofs.EventLemmas.{reads_on, reads_none, named_on, named_non
 use Rattle.program.proofs.loads.run_load.Goals as goal
 
 -- what is left to do once the entities are read, the policies, the state, or the schema
-abbrev over_entities : {L G : Type 0} → LoadOptions → List ℕ → Option (List ℕ) → Option (List ℕ) → Option (List ℕ) → Course L G
+abbrev over_entities : {L G N : Type 0} → LoadOptions → List ℕ → Option (List ℕ) → Option (List ℕ) → Option (List ℕ) → Course L G N
 over_entities options schema state policies entities = IsLoadedOrRefused options schema state policies entities
 
-abbrev over_policies : {L G : Type 0} → LoadOptions → List ℕ → Option (List ℕ) → Option (List ℕ) → Course L G
+abbrev over_policies : {L G N : Type 0} → LoadOptions → List ℕ → Option (List ℕ) → Option (List ℕ) → Course L G N
 over_policies options schema state policies =
     ReadsIfNamed (option_map (λ e. e.now) options.entities) (over_entities options schema state policies)
 
-abbrev over_state : {L G : Type 0} → LoadOptions → List ℕ → Option (List ℕ) → Course L G
+abbrev over_state : {L G N : Type 0} → LoadOptions → List ℕ → Option (List ℕ) → Course L G N
 over_state options schema state = ReadsIfNamed (option_map (λ p. p.now) options.policies) (over_policies options schema state)
 
-abbrev over_schema : {L G : Type 0} → LoadOptions → List ℕ → Course L G
+abbrev over_schema : {L G N : Type 0} → LoadOptions → List ℕ → Course L G N
 over_schema options schema = ReadsIfNamed (option_map (λ s. s.now) options.state) (over_state options schema)
 
 pub returns-in-Err : goal.returns-in-Err

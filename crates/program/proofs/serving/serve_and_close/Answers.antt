@@ -5,6 +5,6 @@ use Rattle.program.proofs.serving.serve_and_close.Goals as goal
 
 pub returns : goal.returns
 returns g c =
-    closed_after g.H.Host.does (IsServedIfListening g.H.Reader.Source g.H.Writer.Sink g.H.Log.Sink c.args.options.now
+    closed_after g.H.Host.does (IsServedIfListening g.H.Log.Sink g.H.Sockets.Sockets c.args.options.now
     (record { site = c.args.site; log = c.args.log })) _ _ _ _ (exit_status c.serve_listening-end.result)
     c.serve_listening-end.ensures c.close_log.ensures

@@ -6,10 +6,10 @@ use Rattle.program.proofs.EventLemmas.{reads_on, reads_none}
 use Rattle.program.proofs.states.run_merge.Goals as goal
 
 -- what is left to do once the first is read, and once the schema is
-abbrev over_first : {L G : Type 0} → MergeOptions → List ℕ → List ℕ → Course L G
+abbrev over_first : {L G N : Type 0} → MergeOptions → List ℕ → List ℕ → Course L G N
 over_first options schema first = Reads options.second.now (AreMerged options schema first)
 
-abbrev over_schema : {L G : Type 0} → MergeOptions → List ℕ → Course L G
+abbrev over_schema : {L G N : Type 0} → MergeOptions → List ℕ → Course L G N
 over_schema options schema = Reads options.first.now (over_first options schema)
 
 pub returns-in-Err : goal.returns-in-Err

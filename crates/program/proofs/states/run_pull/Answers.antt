@@ -10,10 +10,10 @@ use Rattle.program.proofs.EventLemmas.{reads_on, reads_none, there_on, there_non
 use Rattle.program.proofs.states.run_pull.Goals as goal
 
 -- what is left to do once the state is read, and once the schema is
-abbrev over_state : {R W G : Type 0} → Source R → Sink W → PullOptions → List ℕ → Option (List ℕ) → Course (Link R W) G
+abbrev over_state : {R W G N : Type 0} → Source R → Sink W → PullOptions → List ℕ → Option (List ℕ) → Course (Link R W) G N
 over_state reader writer options schema state = Connects options.from.now (IsPulledOver reader writer options schema state)
 
-abbrev over_schema : {R W G : Type 0} → Source R → Sink W → PullOptions → List ℕ → Course (Link R W) G
+abbrev over_schema : {R W G N : Type 0} → Source R → Sink W → PullOptions → List ℕ → Course (Link R W) G N
 over_schema reader writer options schema = ReadsIfThere options.state.now (over_state reader writer options schema)
 
 pub returns-in-Err : goal.returns-in-Err

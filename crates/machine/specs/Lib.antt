@@ -1,0 +1,3 @@
+pub mod Streams
+pub mod Calls
+pub mod Changes
