@@ -457,9 +457,10 @@ def interrupted_waits(twins):
 
 
 def failed_wait(twins, error):
-    """Makes a wait of a site fail, before its first client and behind a reply. Raises `Fault`."""
+    """Makes the waits of a site fail, before its first client and behind a reply. Raises `Fault`."""
     for is_first in (True, False):
-        plan = PLAIN._replace(failing_waits=1, wait_error=error)
+        # calls that only look, after a wait, fail too, without an effect
+        plan = PLAIN._replace(failing_waits=9, wait_error=error)
         twins.others_shared.ask(plan if is_first else PLAIN)
         process, port = listening(twins.others, twins.program, twins.schema, "1")
         came = NO_POLICY_REPLY

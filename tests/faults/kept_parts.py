@@ -119,8 +119,6 @@ class Counted:
             self.memory = mmap.mmap(file.fileno(), 16)
         self.processes = Processes(LD_PRELOAD=f"{folder}/refuse.so", ASKED=path)
         self.site = Site(self.processes, program, f"{folder}/{schema}", "00001")
-        # it has the memory for its connections once it answers
-        self.state()
 
     def asked(self):
         """Returns the number of allocations of the site so far."""

@@ -11,9 +11,10 @@
   second at least, makes room; one with a request under way does not. `--idle` closes a connection without a byte for so
   long; a request that is not whole after ten seconds ends its connection, unless it is long and comes fast enough. With
   `--clients 1 --idle 0` none of these acts. `--connections` ends the site once so many were accepted and are gone.
-- A site that cannot open a file serves the clients that it has, does not spin, and serves the next one later.
-- A refusal arrives, without a reset, although its client still sends; what it sends is discarded for a second at most,
-  and meanwhile others are served.
+- A site that cannot open a file serves the clients that it has, does not spin, and serves the next one once another is
+  idle for a second, or gone. A client that sent in time is answered although the site stood still meanwhile.
+- A refusal arrives, without a reset, although its client still sends and others come and go; what it sends is discarded
+  for a second at most, and meanwhile others are served.
 - The log has a line for each reply, whole before the reply is sent, in the order of the site's steps. Three sites that
   exchange while 51 clients put, delete and decide have, each, the replies and the state of a new site that gets the same
   requests one by one in the order of the log.
@@ -29,6 +30,7 @@ import os
 import random
 import resource
 import select
+import signal
 import socket
 import struct
 import subprocess
@@ -623,7 +625,8 @@ def slow_requests(room):
 
 
 def no_file_more(room):
-    """A site that cannot open a file serves those that it has, sleeps, warns, and serves the next one later."""
+    """A site that cannot open a file serves those that it has, sleeps and warns. It serves the next one once a client goes,
+    or was idle for a second: the one idle longest makes room."""
     site = room.site()
     clients = site.clients(2)
     for client in clients:
@@ -633,20 +636,58 @@ def no_file_more(room):
     resource.prlimit(site.process.pid, resource.RLIMIT_NOFILE, (min(set(range(len(taken) + 1)) - taken), limits[1]))
     waiting = site.client()
     waiting.send(request("GET", "/v1/policies/absent"))
-    site.sleeps("a site that cannot open a file", 1.5)
+    site.sleeps("a site that cannot open a file", 0.7)
     for turn in range(20):
         for client in clients:
             client.asks_rightly(f"request {turn} while no file can be opened")
     same("one that waits for a file", True, waiting.is_silent(0.2))
     clients[0].close()
     same("the one that waited for a file", ABSENT_REPLY, waiting.reply())
-    clients[1].asks_rightly("a client after the limit")
+    last = site.client()
+    last.send(request("GET", "/v1/policies/absent"))
+    same("one that waits while others are idle", ABSENT_REPLY, last.reply())
+    clients[1].ends("the client that was idle longest")
+    waiting.asks_rightly("a client that was not idle longest")
     site.runs_on()
-    # one before the client was served, and one behind, since then the system refuses to accept even if nobody waits
+    # a client that is accepted ends the failures that are warned of once; the system then refuses even if nobody waits
     told, warning = site.processes.end(site.process)[1], f"warning: accept failed, trying again: {HOST}:{site.port}"
-    if told not in (warning, f"{warning}\n{warning}"):
-        raise Fault(f"expected one warning, or two, got {shown(told)}")
+    if told not in ("\n".join([warning] * count) for count in (1, 2, 3)):
+        raise Fault(f"expected one to three warnings, got {shown(told)}")
     return "served later"
+
+
+def stopped(room):
+    """A client whose bytes came in time is answered, although the site stood still until its limit was over."""
+    site = room.site("--idle", "2")
+    quick, silent = site.clients(2)
+    for client in (quick, silent):
+        client.asks_rightly("a client before the stop")
+    os.kill(site.process.pid, signal.SIGSTOP)
+    time.sleep(0.2)
+    quick.send(request("GET", "/v1/policies/absent"))
+    time.sleep(2.5)
+    os.kill(site.process.pid, signal.SIGCONT)
+    same("a client that sent while the site stood still", ABSENT_REPLY, quick.reply())
+    silent.ends("a client that sent nothing")
+    return "answered"
+
+
+def refused_beside_others(room):
+    """A refused client that still sends is not reset because others come and go."""
+    site = room.site("--clients", "8")
+    refused, until, others = site.client(), time.monotonic() + 0.5, 0
+    refused.send(b"{}")
+    same("the status of a refusal", 400, refused.reply()[0])
+    while time.monotonic() < until:
+        other = site.client()
+        other.asks_rightly("a client beside one that is refused")
+        other.close()
+        refused.send(b"x")
+        others += 1
+    refused.ends("a client that is refused")
+    if others < 20:
+        raise Fault(f"expected at least 20 others, got {others}")
+    return f"beside {others} others"
 
 
 # ---- the log
@@ -876,6 +917,8 @@ CASES = (
     ("one waits, and the one idle longest goes", idle_longest_goes),
     ("--clients 1 --idle 0", one_after_another),
     ("no file more", no_file_more),
+    ("a site that stood still", stopped),
+    ("a refused client beside others that come and go", refused_beside_others),
     ("a log that is full", lines_come_first),
     ("three sites that exchange", exchanging_sites),
     ("64 clients that send 8 MB each", large_bodies),

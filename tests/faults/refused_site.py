@@ -6,7 +6,7 @@
 The inputs and their replies are rows of one part of crates/test_sites/stdout. An input whose reply has code 1 has changed
 nothing, or has applied exactly as many updates as the reply says; one whose connection ended without a reply has changed
 nothing. Each is then given once more: that reply, and all later ones, are those of a run with ample memory. If an
-allocation fails before the program listens, or before it serves, it ends with an error. After the rows comes one more put. Then an answer
+allocation fails before the program listens, it ends with an error. After the rows comes one more put. Then an answer
 allocates as often as in a run with ample memory, so the caches are present again. If all allocations are tried, some run
 must have a reply of code 1, some a message that is cut short, and some must drop the caches; else the script fails.
 Needs `cc`.
@@ -39,8 +39,6 @@ DROPPED = "caches dropped"
 WANTED = ("replies of code 1", "messages cut short", DROPPED)
 # how often a run is restarted whose port another program has taken
 PORTS = 20
-# the outcome of an input to a site that is gone
-GONE = "no site"
 # the put after the rows
 ONE_MORE = 'put_policy z permit(principal in Group::"g", action, resource);'
 
@@ -111,14 +109,12 @@ class Client:
         self.port, self.link = port, None
 
     def told(self, text):
-        """Returns the outcome of an input; None if the connection ends without a reply, `GONE` without a site."""
+        """Returns the outcome of an input; None if the connection ends without a reply."""
         sent, telling = input_of(text)
         try:
             if self.link is None:
                 self.link = Link(self.port)
             return telling(Reply(*self.link.ask(sent)[0]))
-        except ConnectionRefusedError:
-            return GONE
         except ConnectionError:
             self.close()
             return None
@@ -155,11 +151,8 @@ def served(client, rows, number):
             asked.append(None if before < number <= ASKED.now() else ASKED.now() - before)
         if came != row.expected:
             assert kind == "not noticed", f"{row.text[:200]}: expected {row.expected} after an earlier failed allocation, got {came}"
-            now = client.told("state")
-            if row is rows[0] and now == GONE:
-                return ENDS, []
             kind, left = short_of(came, row.text, state)
-            again = client.told(row.text)
+            now, again = client.told("state"), client.told(row.text)
             assert now == left, f"{row.text[:200]}: expected the state {left}, got {now}"
             assert again == row.expected, f"{row.text[:200]}: expected {row.expected} the second time, got {again}"
     return kind, asked
@@ -174,22 +167,15 @@ def behind(client, rows):
 def kind_of(site, rows, number):
     """Returns the effect of the failed allocation, and the outcomes after the rows; no kind if it is not an allocation of the rows."""
     if not site.listens:
-        return ended(site)
+        status, _ = site.ended()
+        assert status > 0, f"expected a status above 0, got {status}"
+        return ENDS, None
     client = Client(site.port)
     try:
         kind, asked = served(client, rows, number)
-        if kind == ENDS:
-            return ended(site)
         return (kind, (asked, behind(client, rows))) if number <= ASKED.now() else (None, None)
     finally:
         client.close()
-
-
-def ended(site):
-    """Returns the kind of a run that has ended. Fails if its status is that of a success."""
-    status, _ = site.ended()
-    assert status > 0, f"expected a status above 0, got {status}"
-    return ENDS, None
 
 
 def tried(number, rows):

@@ -126,7 +126,7 @@ module _ {N : Type 0} (does : N → Act → N → Type 0) where
   -- a wait
   pub waited : (limits : Limits) (millis : Option ℕ) (went : Bool) (c : Course) (table : List Connection) (first last : N)
       → IsWait limits c table millis → does first (Waited millis went) last
-      → Moves does (IsWaiting limits went) c table first (record c { busy = false; nobody = false; sought = false }) table last
+      → Moves does (IsWaiting limits went) c table first (record c { busy = false; nobody = false; failed = false; sought = false }) table last
   waited limits millis went c table first last is did = record {
     happenings = Call (Waited millis went) ∷ [];
     course = refl;

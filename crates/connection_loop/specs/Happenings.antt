@@ -35,11 +35,12 @@ longer (suc n) = min (2 * suc n) LONGEST_PAUSE
 -- - a failure to accept begins a pause;
 -- - bytes in either direction, and an end, may leave more to do.
 abbrev pub after_act : Course → Act → Course
-after_act c (Waited millis went) = record c { busy = false; nobody = false; sought = false }
+after_act c (Waited millis went) = record c { busy = false; nobody = false; failed = false; sought = false }
 after_act c (Told now) = record c { clock = now }
 after_act c (Accepted at) = record c { busy = true; accepted = c.accepted + 1; pause = 0 }
 after_act c NoneWaits = record c { nobody = true }
-after_act c NotAccepted = record c { pause = longer c.pause; resume = min (c.clock + longer c.pause) MOST }
+after_act c NotAccepted =
+    record c { failed = true; pause = longer c.pause; resume = min (c.clock + longer c.pause) MOST }
 after_act c (Queued waits) = record c { sought = waits }
 after_act c (Read at bytes) = record c { busy = true }
 after_act c (ReadEnd at) = record c { busy = true }

@@ -24,6 +24,7 @@ beginning = record {
   clock = 0;
   busy = true;
   nobody = false;
+  failed = false;
   sought = false;
   from = 0;
   pause = 0;

@@ -58,7 +58,7 @@ pub record IsCrowded (limits : Limits) (table : List Connection) : Type 0 where
   pub called : IsCalledFor Reasons.Crowded table
 
 -- `HasDue limits c table t` holds if the loop has something to do at the time `t` if no byte comes or is taken before:
--- a connection is over a limit; a client waits for a slot, and a connection may make room; the table is crowded, and a
+-- a connection is over a limit; a client waits for room, and a connection may make it; the table is crowded, and a
 -- reader is too slow for this; or a pause is over.
 abbrev pub HasDue : Limits → Course → List Connection → ℕ → Type 0
 HasDue limits c table t =
@@ -100,12 +100,11 @@ IsClosedAt why at c table hs =
     ((hs ≡ Call (Closed at why) ∷ []) × IsSomeAt at (MayEnd why table) table)
     ⊎ ((hs ≡ []) × IsNoneAt at (MayEnd why table) table)
 
--- `MakesRoom limits c table` holds if it is to be asked whether a client waits for a slot: one may be accepted, and no
--- slot is free.
+-- `MakesRoom limits c table` holds if it is to be asked whether a client waits that could not be accepted: one may be
+-- accepted, and no slot is free; or accepting failed in this turn, as when no file descriptor is free.
 pub record MakesRoom (limits : Limits) (c : Course) (table : List Connection) : Type 0 where
-  pub may : MayAccept limits c
-  pub full : IsFull table
   pub limited : IsLimited limits table
+  pub lacks : (c.failed ≡ true) ⊎ (MayAccept limits c × IsFull table)
 
 -- `IsRoomFor victim hs` holds if a client waits, and the connection at the slot `victim`, if there is one, makes room.
 abbrev pub IsRoomFor : Option ℕ → List Happening → Type 0

@@ -26,7 +26,7 @@ pub(crate) fn is_full(slots: &[Slot]) -> bool
     true
 }
 
-/// Returns whether it is to be asked whether a client waits for a slot.
+/// Returns whether it is to be asked whether a client waits that could not be accepted.
 fn makes_room(slots: &[Slot], limits: &Limits, course: &Course) -> bool
     ensures yes { IsTrue result → MakesRoom limits.now course.now slots.now }
     ensures no { IsFalse result → MakesRoom limits.now course.now slots.now → ⊥ }
@@ -34,14 +34,17 @@ fn makes_room(slots: &[Slot], limits: &Limits, course: &Course) -> bool
     if !is_limited(slots, limits) {
         return false;
     }
+    if course.failed {
+        return true;
+    }
     if !course.may_accept(limits) {
         return false;
     }
     is_full(slots)
 }
 
-/// Makes room if a client waits for a slot and none is free: closes the connection idle longest; or the one late
-/// longest, or slow longest; or none.
+/// Makes room if a client waits and no slot is free, or accepting it failed: closes the connection idle longest; or the
+/// one late longest, or slow longest; or none.
 pub fn make_room<N: Sockets>(
     slots: &mut [Slot],
     limits: &Limits,

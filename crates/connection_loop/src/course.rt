@@ -20,7 +20,9 @@ pub struct Course {
     pub busy: bool,
     /// Whether an attempt to accept found no client, since the last wait.
     pub nobody: bool,
-    /// Whether a client waits for a slot, as far as was asked since the last wait.
+    /// Whether an attempt to accept failed, since the last wait.
+    pub failed: bool,
+    /// Whether a client waits that could not be accepted, as far as was asked since the last wait.
     pub sought: bool,
     /// The slot at which the next round of answers begins.
     pub from: usize,
@@ -41,6 +43,7 @@ impl Course {
             clock: 0,
             busy: true,
             nobody: false,
+            failed: false,
             sought: false,
             from: 0,
             pause: 0,
@@ -70,6 +73,7 @@ impl Course {
         ensures { self.new ≡ after_act self.old NotAccepted }
     {
         let pause = longer(self.pause);
+        self.failed = true;
         self.pause = pause;
         self.resume = self.clock.saturating_add(pause);
     }

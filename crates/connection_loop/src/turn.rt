@@ -141,6 +141,7 @@ pub fn turn<S: Service, L: Log, N: Sockets>(
     let millis = wait_of(slots, limits, course);
     course.busy = false;
     course.nobody = false;
+    course.failed = false;
     course.sought = false;
     match sockets.wait(millis) {
         Ok(()) => {}

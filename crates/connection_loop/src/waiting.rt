@@ -62,7 +62,7 @@ fn relief_wait(slots: &[Slot], limits: &Limits, now: u64) -> Option<u64>
     next_wait(slots, Limit::Crowd, now)
 }
 
-/// Returns the milliseconds until a connection may make room, if a client waits for a slot.
+/// Returns the milliseconds until a connection may make room, if a client waits for room.
 fn room_wait(slots: &[Slot], course: &Course) -> Option<u64>
     ensures { IsFirstAfter course.now.clock (λ t. (course.now.sought ≡ true) × IsOneOver Room slots.now t) result }
 {

@@ -1,5 +1,5 @@
 -- What a loop says of a borrowed site and a borrowed log is said of the site in the midst of its run, and of the log.
-use Rattle.std.proofs.Common.{◌≡◌, ℕ, Bool, Option, is_some, Result, Ok, Err, List, length, refl, sym, ap, subst}
+use Rattle.std.proofs.Common.{◌≡◌, ℕ, Bool, Option, is_some, Result, List, length, refl, sym, subst}
 use Rattle.connections.specs.Connections.{Connection, Entry}
 use Rattle.connections.specs.Steps.{IsChain, Notes}
 use Rattle.connections.specs.Stories.{AreFree}
@@ -9,18 +9,15 @@ use Rattle.connection_loop.specs.Serving.{IsServedTogether, beginning}
 use Rattle.connection_loop.specs.declared.course.Course.{Course}
 use Rattle.connection_loop.specs.declared.limits.Limits.{Limits}
 use Rattle.connection_loop.specs.declared.turn.LoopFault.{LoopFault}
-use Rattle.connection_loop.specs.declared.turn.LoopFault.TheVariants as loop_fault
 use Rattle.http.specs.declared.status.StatusCode.{StatusCode}
 use Rattle.http_streams.specs.Request.{IsUnfinished}
 use Rattle.http_streams.specs.Stream.{Answering}
 use Rattle.http_replies.specs.site.SiteViews.{SiteView, schema_of, store_in}
 use Rattle.http_service.specs.RequestReplies.{answers_over}
 use Rattle.http_service.specs.Serving.{ContinuesRequest, Served, before_requests}
-use Rattle.http_service.specs.Together.{AreConnectionsServed, AreServed, IsCall, IsConnectionsCall}
+use Rattle.http_service.specs.Together.{AreConnectionsServed, AreServed}
 use Rattle.http_service.specs.Together.{IsCutOff, IsWritten, Records, TakesSteps}
 use Rattle.http_service.specs.declared.site_service.SiteService.{SiteService}
-use Rattle.http_service.specs.declared.together.ServingFault.{ServingFault}
-use Rattle.http_service.specs.declared.together.ServingFault.TheVariants as fault
 use Rattle.http_service.proofs.Carried.{Carries, Running, carried_first, carry_on}
 use Rattle.http_service.proofs.Chains.{Behind, IsBehind, chained, step_noted, step_taken}
 use Rattle.http_service.proofs.RunLemmas.{RunsTake}
@@ -117,28 +114,12 @@ module _ {A L N Name : Type 0} (now_of : A → Option L) (name_of : A → Name) 
           lines.2.1,
         )
 
-    called : (result : Result (Unit {0}) ServingFault)
-        → IsCall (AreServed (TakesSteps (is_some (now_of log)) says) BorrowedRecords does clients limits) old new log
-        logged first last result
-        → IsConnectionsCall holds failures fails does clients limits (site_of old).site.now (site_of new).site.now
-        (now_of log) (now_of logged) first last result
-        × ((site_of new).site.ghost_name ≡ (site_of old).site.ghost_name) × (name_of logged ≡ name_of log)
-    called (Ok done) h = served_connections (Ok done) h
-    called (Err fault.Network) h = served_connections (Err loop_fault.Network) h
-    called (Err fault.Commit) h = served_connections (Err loop_fault.Commit) h
-    called (Err fault.NoMemory) h = (
-      (ap (λ (s : S). (site_of s).site.now) h.0, ap now_of h.1, h.2),
-      ap (λ (s : S). (site_of s).site.ghost_name) h.0,
-      ap name_of h.1,
-    )
-
     -- with a log or without one
-    pub site_called : (has_log : Bool) → is_some (now_of log) ≡ has_log → (result : Result (Unit {0}) ServingFault)
-        → IsCall (AreServed (TakesSteps has_log says) BorrowedRecords does clients limits) old new log logged first last
-        result
-        → IsConnectionsCall holds failures fails does clients limits (site_of old).site.now (site_of new).site.now
+    pub site_called : (has_log : Bool) → is_some (now_of log) ≡ has_log → (result : Result (Unit {0}) LoopFault)
+        → AreServed (TakesSteps has_log says) BorrowedRecords does clients limits old new log logged first last result
+        → AreConnectionsServed holds failures fails does clients limits (site_of old).site.now (site_of new).site.now
         (now_of log) (now_of logged) first last result
         × ((site_of new).site.ghost_name ≡ (site_of old).site.ghost_name) × (name_of logged ≡ name_of log)
-    site_called has_log is result h = called result
-        (subst (λ (b : Bool). IsCall (AreServed (TakesSteps b says) BorrowedRecords does clients limits) old new log logged
+    site_called has_log is result h = served_connections result
+        (subst (λ (b : Bool). AreServed (TakesSteps b says) BorrowedRecords does clients limits old new log logged
         first last result) (sym is) h)

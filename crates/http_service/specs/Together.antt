@@ -2,7 +2,7 @@
 -- Source: RFC 9112, section 9.3 (replies in the order of the requests); docs/formats.md, "The log of a served site".
 -- Rules of this product: each request, of whatever connection, is at most one step of the site. All these steps are in
 -- one order, in which the log gets the lines.
-use Rattle.std.specs.Prelude.{◌≡◌, ℕ, Bool, true, false, List, [], ◌++◌, Option, Some, None, is_some, Result, Ok, Err}
+use Rattle.std.specs.Prelude.{◌≡◌, ℕ, Bool, true, false, List, [], ◌++◌, Option, Some, None, is_some, Result}
 use Rattle.std.specs.Prelude.{length}
 use Rattle.std.specs.Io.KnownBytes.{Appends}
 use Rattle.connections.specs.Connections.{Connection, Entry}
@@ -13,7 +13,6 @@ use Rattle.connection_loop.specs.Serving.{IsServedTogether, beginning}
 use Rattle.connection_loop.specs.declared.course.Course.{Course}
 use Rattle.connection_loop.specs.declared.limits.Limits.{Limits}
 use Rattle.connection_loop.specs.declared.turn.LoopFault.{LoopFault}
-use Rattle.connection_loop.specs.declared.turn.LoopFault.TheVariants as loop_fault
 use Rattle.http.specs.declared.status.StatusCode.{StatusCode}
 use Rattle.http_streams.specs.Devices.{FailsAtLast}
 use Rattle.http_streams.specs.FramedRequests.{AnswersBytes, IsLineOf}
@@ -27,8 +26,6 @@ use Rattle.http_replies.specs.site.Inputs.{Input}
 use Rattle.http_replies.specs.site.declared.reply.Reply.{Reply}
 use Rattle.http_service.specs.LogLines.{IsLogLine, unread_line}
 use Rattle.http_service.specs.Serving.{ContinuesRequest, before_requests}
-use Rattle.http_service.specs.declared.together.ServingFault.{ServingFault}
-use Rattle.http_service.specs.declared.together.ServingFault.TheVariants as fault
 
 -- ---- the steps of a site
 
@@ -100,18 +97,6 @@ module _ {S L N : Type 0} (steps : S → Entry → S → Type 0) (notes : L → 
         (record { course = course; table = left; service = new; log = logged; sockets = last })
         result
 
--- `IsCall served old new log logged first last result` holds for a call with this result if `served` holds for it; or
--- if memory ran out before, and nothing happened.
-abbrev pub IsCall :
-    {S L N : Type 0} → (S → S → L → L → N → N → Result (Unit {0}) LoopFault → Type 0) → S → S → L → L → N → N
-    → Result (Unit {0}) ServingFault → Type 0
-IsCall served old new log logged first last (Ok done) = served old new log logged first last (Ok done)
-IsCall served old new log logged first last (Err fault.Network) =
-    served old new log logged first last (Err loop_fault.Network)
-IsCall served old new log logged first last (Err fault.Commit) =
-    served old new log logged first last (Err loop_fault.Commit)
-IsCall served old new log logged first last (Err fault.NoMemory) = (new ≡ old) × (logged ≡ log) × (last ≡ first)
-
 -- Of a log, `holds` gives the accepted bytes, if they are known, `failures` the number of its failures, and `fails`
 -- relates the states around a failed call. `does` is as above.
 module _ {L N : Type 0} (holds : L → Option (List ℕ)) (failures : L → ℕ) (fails : L → L → Type 0)
@@ -135,10 +120,3 @@ module _ {L N : Type 0} (holds : L → Option (List ℕ)) (failures : L → ℕ)
     pub run : Run (schema_of old) old.name (store_in old) inputs replies (store_in new)
     pub store : store_in new ≡ store_of (updates (store_in old) ++ took (schema_of old) inputs replies)
     pub same : IsSameSite old new
-
-  -- `IsConnectionsCall old new log logged first last result` holds for a call with this result if it served
-  -- connections; or if memory ran out before, and nothing happened.
-  abbrev pub IsConnectionsCall :
-      SiteView → SiteView → Option L → Option L → N → N → Result (Unit {0}) ServingFault → Type 0
-  IsConnectionsCall old new log logged first last result =
-      IsCall AreConnectionsServed old new log logged first last result

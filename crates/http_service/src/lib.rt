@@ -27,10 +27,11 @@ pub use route::Route;
 pub use routing::route_of;
 pub use serving::{serve, serve_logged};
 pub use site_service::{LoggedService, SiteService};
-pub use together::{ServingFault, serve_connections};
+pub use together::{ServingMemory, serve_connections};
 
 // of this layer
 pub use connection_loop::limits::Limits;
+pub use connection_loop::turn::LoopFault;
 pub use http_replies::{
     LINE_ROOM, fault_place, report_fault, report_put, report_stamp, report_taken,
 };

@@ -14,6 +14,9 @@ use std::io::{Read, Write};
 /// The milliseconds for which what a client sends is discarded.
 const LINGER_MILLIS: u64 = 1_000;
 
+/// The most reads by which what came at one socket is discarded at a time.
+const MOST_READS: usize = 64;
+
 /// A place for a socket of which what comes is discarded until the time `until`.
 #[derive(Drop)]
 struct Leaver<S> {
@@ -21,13 +24,11 @@ struct Leaver<S> {
     until: u64,
 }
 
-/// A fixed number of places for sockets of which what comes is discarded. They are used in turn, so a socket is put
-/// where the oldest was, which is dropped if it is still there.
+/// A fixed number of places for sockets of which what comes is discarded. If no place is free, a new socket takes that
+/// of the one whose time is up first.
 #[derive(Drop)]
 pub(crate) struct Lingering<S> {
     leavers: Vec<Leaver<S>>,
-    /// The place of the next socket.
-    next: usize,
 }
 
 impl<S: Read + Write + Drop> Leaver<S> {
@@ -51,23 +52,26 @@ impl<S: Read + Write + Drop> Leaver<S> {
         Some(self.until.saturating_sub(now))
     }
 
-    /// Discards once what came, and drops the socket if its client sends no more, it failed, or its time is up.
+    /// Discards what came, and drops the socket if its client sends no more, it failed, or its time is up.
     fn discard(&mut self, now: u64) {
-        if now >= self.until || has_ended(&mut self.peer) {
+        if drain(&mut self.peer) || now >= self.until {
             drop(self.peer.take());
         }
     }
 }
 
-/// Discards once what came; returns whether no more will come.
-fn has_ended<S: Read + Write + Drop>(peer: &mut Peer<S>) -> bool {
-    if !peer.is_readable() {
-        return false;
+/// Discards what came, in at most [`MOST_READS`] reads; returns whether no more will come.
+fn drain<S: Read + Write + Drop>(peer: &mut Peer<S>) -> bool {
+    for _ in 0..MOST_READS {
+        if !peer.is_readable() {
+            return false;
+        }
+        match peer.read(&mut [0u8; 16_384]) {
+            Reading::Bytes(_) | Reading::NotYet => {}
+            Reading::End | Reading::Broken => return true,
+        }
     }
-    match peer.read(&mut [0u8; 16_384]) {
-        Reading::Bytes(_) | Reading::NotYet => false,
-        Reading::End | Reading::Broken => true,
-    }
+    false
 }
 
 impl<S: Read + Write + Drop> Lingering<S> {
@@ -80,20 +84,32 @@ impl<S: Read + Write + Drop> Lingering<S> {
                 Err(_) => return Err(AllocError),
             }
         }
-        Ok(Lingering { leavers, next: 0 })
+        Ok(Lingering { leavers })
     }
 
-    /// Returns the place of the next socket.
-    pub(crate) fn next(&self) -> usize {
-        self.next
+    /// Returns the place of the next socket: the first that is free; if none is, that of the socket whose time is up
+    /// first.
+    pub(crate) fn place(&self) -> usize {
+        let mut place = 0;
+        let mut least = u64::MAX;
+        for at in 0..self.leavers.len() {
+            let leaver = &self.leavers[at];
+            if !leaver.peer.is_here() {
+                return at;
+            }
+            if leaver.until < least {
+                least = leaver.until;
+                place = at;
+            }
+        }
+        place
     }
 
-    /// Puts a socket at the next place, at the time `now`.
-    pub(crate) fn put(&mut self, stream: S, now: u64) {
-        let at = self.next;
-        let next = at.saturating_add(1);
-        self.next = if next < self.leavers.len() { next } else { 0 };
+    /// Puts a socket at a place, at the time `now`. If one is still there, what came at it is discarded, and it is
+    /// dropped.
+    pub(crate) fn put(&mut self, at: usize, stream: S, now: u64) {
         if let Some(leaver) = self.leavers.get_mut(at) {
+            drain(&mut leaver.peer);
             leaver.peer.put(stream);
             leaver.until = now.saturating_add(LINGER_MILLIS);
         }
@@ -115,7 +131,7 @@ impl<S: Read + Write + Drop> Lingering<S> {
         first
     }
 
-    /// Discards once what came at each socket, and drops those of which no more will come or whose time is up.
+    /// Discards what came at each socket, and drops those of which no more will come or whose time is up at `now`.
     pub(crate) fn discard(&mut self, now: u64) {
         for leaver in &mut self.leavers {
             leaver.discard(now);

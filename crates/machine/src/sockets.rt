@@ -1,5 +1,5 @@
 //! The sockets at the slots of a table of connections.
-ghost use Rattle.std.specs.Prelude.{◌≡◌, OnOk, length, string_bytes};
+ghost use Rattle.std.specs.Prelude.{◌≡◌, IfOk, None, OnOk, length, replicate, string_bytes};
 ghost use Rattle.std.specs.Io.KnownBytes.{Appends};
 ghost use Rattle.machine.specs.Changes.{IsDone, IsWarned, ended, failing_line};
 ghost use Rattle.machine.specs.Streams.{streams};
@@ -52,6 +52,11 @@ impl From<AllocError> for ListenFault {
 /// what its client sent, in order, and its client gets what the socket took; a client waits if and only if the listener
 /// is reported; the clock does not stand still. That a closed socket still discards what comes, so that its client gets
 /// the last reply whole, is shown by tests too.
+///
+/// Nor does a contract say the order in which the code does this: [`Sockets::now`] reads the clock, then looks until
+/// the system has nothing more to report, and only then tells the time. So what had come at the time that it tells is
+/// found by the calls that follow, though a call at a socket of which nothing was reported does not ask the system. If
+/// a look fails, or does not end, the time that was told last is told again.
 #[derive(Drop)]
 pub struct SystemSockets<'a, R: Net, E> {
     watch: Watch<'a, R>,
@@ -66,7 +71,9 @@ pub struct SystemSockets<'a, R: Net, E> {
 fn free_slots<S: Read + Write + Drop>(
     alloc: Global,
     count: usize,
-) -> Result<Vec<Peer<S>>, AllocError> {
+) -> Result<Vec<Peer<S>>, AllocError>
+    ensures { IfOk result (λ peers. streams peers.items ≡ replicate count None) }
+{
     let mut peers = Vec::with_capacity(alloc, count)?;
     for _ in 0..count {
         match peers.push(Peer::new()) {
@@ -93,7 +100,7 @@ fn write_line<E: Write>(out: &mut E, label: &str, line: &str) -> io::Result<()>
 }
 
 impl<'a, R: Net + Clock, E: Write + Drop> SystemSockets<'a, R, E> {
-    /// Listens at an address, with so many slots. Warnings go to `faults`.
+    /// Listens at an address, with so many slots, all without sockets. Warnings go to `faults`; nothing is written yet.
     ///
     /// # Errors
     ///
@@ -105,7 +112,11 @@ impl<'a, R: Net + Clock, E: Write + Drop> SystemSockets<'a, R, E> {
         address: &str,
         slots: usize,
         faults: E,
-    ) -> Result<SystemSockets<'a, R, E>, ListenFault> {
+    ) -> Result<SystemSockets<'a, R, E>, ListenFault>
+        ensures slots { IfOk result (λ sockets. streams sockets.peers.items ≡ replicate slots None) }
+        ensures faults { IfOk result (λ sockets. sockets.faults ≡ faults) }
+        ensures address { IfOk result (λ sockets. string_bytes sockets.address ≡ address.now) }
+    {
         let peers = free_slots(alloc, slots)?;
         let Ok(named) = format!(in alloc; "{address}") else {
             return Err(ListenFault::NoMemory);
@@ -126,7 +137,10 @@ impl<'a, R: Net + Clock, E: Write + Drop> SystemSockets<'a, R, E> {
 impl<R: Net + Clock, E: Write> SystemSockets<'_, R, E> {
     /// Waits, at most about a second, until each client of a closed socket sends no more. A program calls this before
     /// it ends, so that these clients get all of their last reply.
-    pub fn finish(&mut self) {
+    pub fn finish(&mut self)
+        ensures slots { streams self.new.peers.items ≡ streams self.old.peers.items }
+        ensures faults { self.new.faults ≡ self.old.faults }
+    {
         self.watch.finish(&mut self.peers);
     }
 }
@@ -145,7 +159,7 @@ impl<R: Net + Clock, E: Write> Sockets for SystemSockets<'_, R, E> {
     }
 
     fn now(&mut self) -> u64 {
-        self.watch.time()
+        self.watch.tell(&mut self.peers)
     }
 
     fn is_waiting(&mut self) -> bool {

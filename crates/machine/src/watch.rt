@@ -17,10 +17,13 @@ use std::time::{Clock, Duration};
 /// The token of the listener. No socket has it.
 const LISTENER: usize = usize::MAX;
 
-/// The most events that one wait reports; the next wait reports the others.
+/// The most events that one call of the system reports; the next call reports the others.
 const MOST_EVENTS: usize = 256;
 
-/// The most connections that are gone before they are accepted, in one call.
+/// The most calls of the system in one look at the sockets: enough for 16,384 sockets that are ready at once.
+const MOST_POLLS: usize = 64;
+
+/// The most connections that are gone when they are accepted, in one call.
 const MOST_GONE: usize = 64;
 
 /// The most waits for closed sockets at the end.
@@ -40,8 +43,10 @@ pub(crate) struct Watch<'a, R: Net> {
     /// Whether something was reported, or is left to do, for which no wait has returned.
     fresh: bool,
     lingering: Lingering<R::Stream>,
-    /// The last time that the clock told.
+    /// The greatest time that the clock told.
     now: u64,
+    /// The last time that was told. A complete look at the sockets followed it.
+    told: u64,
 }
 
 /// Has the system report under a token when a socket becomes ready, also if it is ready now.
@@ -95,18 +100,43 @@ impl<'a, R: Net + Clock> Watch<'a, R> {
             fresh: false,
             lingering: Lingering::new(alloc, slots)?,
             now: 0,
+            told: 0,
         })
     }
 
-    /// Returns the milliseconds since some moment; the last ones if the clock fails.
-    pub(crate) fn time(&mut self) -> u64 {
+    /// Returns the milliseconds since some moment by the clock; the greatest ones so far if it fails or goes back.
+    fn time(&mut self) -> u64 {
         if let Ok(time) = self.system.monotonic() {
-            self.now = u64::try_from(time.as_millis()).unwrap_or(u64::MAX);
+            let now = u64::try_from(time.as_millis()).unwrap_or(u64::MAX);
+            self.now = self.now.max(now);
         }
         self.now
     }
 
-    /// Waits until something is reported, or for so many milliseconds, and discards what came at closed sockets.
+    /// Returns the milliseconds since some moment, a time that a complete look at the sockets followed: all that the
+    /// system had to report at this time is noted. If the clock gives another time than was told last, it is told only
+    /// after a look; if the look fails or is not complete, the time that was told last is told again.
+    ///
+    /// What is noted here ends the next wait at once.
+    pub(crate) fn tell(&mut self, peers: &mut [Peer<R::Stream>]) -> u64
+        ensures { streams peers.new ≡ streams peers.old }
+    {
+        let now = self.time();
+        if now == self.told {
+            return now;
+        }
+        let known = self.acceptable;
+        if let Ok(true) = self.look(peers) {
+            self.told = now;
+        }
+        if self.acceptable && !known {
+            self.fresh = true;
+        }
+        self.told
+    }
+
+    /// Waits until something is reported, or for so many milliseconds; then notes all that there is to report, and
+    /// discards what came at closed sockets.
     ///
     /// # Errors
     ///
@@ -125,14 +155,16 @@ impl<'a, R: Net + Clock> Watch<'a, R> {
             sooner(millis, self.lingering.wait(before))
         };
         self.poll_once(peers, limit)?;
+        let after = self.tell(peers);
         self.fresh = false;
-        let after = self.time();
         self.lingering.discard(after);
         Ok(())
     }
 
     /// Waits until no closed socket is left.
-    pub(crate) fn finish(&mut self, peers: &mut [Peer<R::Stream>]) {
+    pub(crate) fn finish(&mut self, peers: &mut [Peer<R::Stream>])
+        ensures { streams peers.new ≡ streams peers.old }
+    {
         for _ in 0..MOST_WAITS {
             let now = self.time();
             if self.lingering.wait(now).is_none() || self.wait(peers, None).is_err() {
@@ -141,12 +173,29 @@ impl<'a, R: Net + Clock> Watch<'a, R> {
         }
     }
 
-    /// Waits for at most so many milliseconds, and notes what is reported.
+    /// Looks at the sockets: notes what the system has to report, without waiting; returns whether this was complete.
+    ///
+    /// # Errors
+    ///
+    /// - `io::Error`: the system cannot report.
+    fn look(&mut self, peers: &mut [Peer<R::Stream>]) -> io::Result<bool>
+        ensures { streams peers.new ≡ streams peers.old }
+    {
+        for _ in 0..MOST_POLLS {
+            if self.poll_once(peers, Some(0))? < MOST_EVENTS {
+                return Ok(true);
+            }
+        }
+        Ok(false)
+    }
+
+    /// Waits for at most so many milliseconds, and notes what is reported; returns the number of reports. If there are
+    /// [`MOST_EVENTS`], there may be more.
     ///
     /// # Errors
     ///
     /// - `io::Error`: the system cannot wait.
-    fn poll_once(&mut self, peers: &mut [Peer<R::Stream>], millis: Option<u64>) -> io::Result<()>
+    fn poll_once(&mut self, peers: &mut [Peer<R::Stream>], millis: Option<u64>) -> io::Result<usize>
         ensures { streams peers.new ≡ streams peers.old }
     {
         let limit = millis.map(|millis| Duration::from_millis(millis));
@@ -164,7 +213,7 @@ impl<'a, R: Net + Clock> Watch<'a, R> {
                 self.lingering.note(at - peers.len(), event);
             }
         }
-        Ok(())
+        Ok(self.events.iter().len())
     }
 
     /// Returns whether a client waits to be accepted. What was reported may be stale, so the listener is registered
@@ -180,27 +229,29 @@ impl<'a, R: Net + Clock> Watch<'a, R> {
             return false;
         }
         self.acceptable = false;
-        self.poll_once(peers, Some(0)).is_ok() && self.acceptable
+        self.look(peers).is_ok() && self.acceptable
     }
 
     /// Returns the socket of the next client that waits, if there is one, which is reported under the token `at` from
-    /// now on. What is written to it is sent without delay.
+    /// now on.
     ///
     /// # Errors
     ///
-    /// - `io::Error`: accepting it failed.
+    /// - `io::Error`: accepting it failed; or the system has no memory to report its socket, or reports as many as it
+    ///   may (epoll_ctl's ENOMEM and ENOSPC), and its connection is closed.
     pub(crate) fn accept(&mut self, at: usize) -> io::Result<Option<R::Stream>> {
         let Some(stream) = self.next_client()? else {
             return Ok(None);
         };
         stream.set_nonblocking(true)?;
-        stream.set_nodelay(true)?;
         let both = Interest::READABLE | Interest::WRITABLE;
         register(&self.poll, stream.as_raw_fd(), at, both)?;
         Ok(Some(stream))
     }
 
-    /// Returns the next client that waits, if there is one. Those that are gone are passed over.
+    /// Returns the socket of the next client that waits, if there is one. What is written to it is sent without delay.
+    /// Clients that are gone are passed over: those of which accepting says so, and those whose socket does not take
+    /// this setting, since they reset the connection while they waited.
     ///
     /// # Errors
     ///
@@ -211,7 +262,11 @@ impl<'a, R: Net + Clock> Watch<'a, R> {
         }
         for _ in 0..MOST_GONE {
             match self.listener.accept() {
-                Ok((stream, _)) => return Ok(Some(stream)),
+                Ok((stream, _)) => {
+                    if stream.set_nodelay(true).is_ok() {
+                        return Ok(Some(stream));
+                    }
+                }
                 Err(error) => {
                     if error.kind() == ErrorKind::WouldBlock {
                         self.acceptable = false;
@@ -233,9 +288,10 @@ impl<'a, R: Net + Clock> Watch<'a, R> {
         if stream.shutdown(Shutdown::Write).is_err() {
             return;
         }
-        let token = slots.saturating_add(self.lingering.next());
+        let at = self.lingering.place();
+        let token = slots.saturating_add(at);
         let _ = register_again(&self.poll, stream.as_raw_fd(), token, Interest::READABLE);
         let now = self.time();
-        self.lingering.put(stream, now);
+        self.lingering.put(at, stream, now);
     }
 }

@@ -5,7 +5,7 @@ use Rattle.std.proofs.Common.{Result, Ok, Err}
 use Rattle.std.proofs.Common.{IfOk, IfErr, refl, sym, ap, subst}
 use Rattle.connection_loop.specs.declared.sockets.Sockets.{Ghosts as Sockets}
 use Rattle.program_exchanges.specs.http_streams.declared.devices.Sink.{Ghosts as Sink}
-use Rattle.program_drills.specs.http_service.declared.together.ServingFault.{ServingFault}
+use Rattle.connection_loop.specs.declared.turn.LoopFault.{LoopFault}
 use Rattle.program_drills.specs.answer_lines.declared.refusal.Refusal.{Refusal}
 use Rattle.program_drills.specs.answer_lines.Refusals.{no_memory}
 use Rattle.program_lines.specs.declared.line.ServeOptions.{ServeOptions}
@@ -50,7 +50,7 @@ module _ {L G N H : Type 0} (does : H → Event L G N → H → Type 0) where
       → Runs does mid new (λ events. IsFailureReported options.listen.now events end)
       → Runs does old new (λ events. IsNotListening options events end)
   listens_not options old mid new end step told =
-      (listening options None ∷ told.0, (mid, step, told.1), inl (told.0, refl, told.2))
+      (listening options None ∷ told.0, (mid, step, told.1), inr (inl (told.0, refl, told.2)))
 
   -- it does, and cannot say so
   pub prints_not : (options : ServeOptions) (old mid next new : H) (end : ℕ) (sockets : N)
@@ -59,13 +59,13 @@ module _ {L G N H : Type 0} (does : H → Event L G N → H → Type 0) where
   prints_not options old mid next new end sockets step line closed is = (
     listening options (Some sockets) ∷ announced options false ∷ sockets_closed sockets ∷ [],
     (mid, step, (next, line, (new, closed, refl))),
-    inr (sockets, refl, is),
+    inr (inr (sockets, refl, is)),
   )
 
   module _ (log : Sink G) (sockets : Sockets N) where
     -- behind the line that tells where the run listens, connections are served, and the sockets are closed
     pub served_listening : (options : ServeOptions) (old mid next new : H) (before : Serving G) (site : SiteView) (left : Option G)
-        (first last : N) (result : Result (Unit {0}) ServingFault) (end : ℕ)
+        (first last : N) (result : Result (Unit {0}) LoopFault) (end : ℕ)
         → Runs does old mid (λ events. events ≡ listening options (Some first) ∷ announced options true ∷ [])
         → AreServed log sockets options before (record { site = site; log = left }) first last result
         → does mid (sockets_closed last) next

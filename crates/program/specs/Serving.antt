@@ -8,13 +8,12 @@ use Rattle.std.specs.Prelude.{◌≡◌, ◌⊎◌, ℕ, zero, suc, ◌*◌, Boo
 use Rattle.std.specs.Prelude.{Result, Ok, Err, codes, false, option_map, true}
 use Rattle.connection_loop.specs.declared.limits.Limits.{Limits}
 use Rattle.connection_loop.specs.declared.sockets.Sockets.{Ghosts as Sockets}
+use Rattle.connection_loop.specs.declared.turn.LoopFault.{LoopFault}
 use Rattle.program_exchanges.specs.http_streams.declared.devices.Sink.{Ghosts as Sink}
 use Rattle.program_lines.specs.declared.line.ServeOptions.{ServeOptions}
 use Rattle.program_lines.specs.stamped_store.Stamping.{has_stamps_of}
 use Rattle.site_loading.specs.site.SiteViews.{SiteView, store_in}
-use Rattle.program_drills.specs.http_service.Together.{IsConnectionsCall}
-use Rattle.program_drills.specs.http_service.declared.together.ServingFault.{ServingFault}
-use Rattle.program_drills.specs.http_service.declared.together.ServingFault.TheVariants as fault
+use Rattle.program_drills.specs.http_service.Together.{AreConnectionsServed}
 use Rattle.program.specs.declared.device.Stream.TheVariants.{Answers}
 use Rattle.program.specs.Events.{Event, listened, sockets_closed, wrote}
 use Rattle.program.specs.Reports.{ended, IsFailureReported, IsMemoryReported}
@@ -52,12 +51,10 @@ pub record Serving (G : Type 0) : Type 0 where
 
 module _ {L G N : Type 0} where
   -- `IsEnded address result`: the status of the run is 0 if all connections that it was to serve are gone; else the
-  -- result of serving at `address` is reported: out of memory, or a failure.
-  abbrev pub IsEnded : List ℕ → Result (Unit {0}) ServingFault → Course L G N
+  -- failure of serving at `address` is reported.
+  abbrev pub IsEnded : List ℕ → Result (Unit {0}) LoopFault → Course L G N
   IsEnded address (Ok done) events end = (events ≡ []) × (end ≡ 0)
-  IsEnded address (Err fault.NoMemory) events end = IsMemoryReported events end
-  IsEnded address (Err fault.Network) events end = IsFailureReported address events end
-  IsEnded address (Err fault.Commit) events end = IsFailureReported address events end
+  IsEnded address (Err fault) events end = IsFailureReported address events end
 
   -- `listening options came` is the event of listening at the address in `options`, for as many connections at once as
   -- they give, with the sockets in `came`, if that was possible.
@@ -68,11 +65,12 @@ module _ {L G N : Type 0} where
   abbrev pub announced : ServeOptions → Bool → Event L G N
   announced options done = wrote Answers (ended (listening_line options.listen.now)) done
 
-  -- `IsNotListening options`: the run could not listen at the address in `options`, and reports it; or it could not
-  -- print the address, closes the sockets, and ends with status 3.
+  -- `IsNotListening options`: the run was out of memory, or could not listen at the address in `options`, and reports
+  -- it; or it could not print the address, closes the sockets, and ends with status 3.
   abbrev pub IsNotListening : ServeOptions → Course L G N
   IsNotListening options events end =
-      ((rest : List (Event L G N)) × (events ≡ listening options None ∷ rest)
+      IsMemoryReported events end
+      ⊎ ((rest : List (Event L G N)) × (events ≡ listening options None ∷ rest)
       × IsFailureReported options.listen.now rest end)
       ⊎ ((sockets : N)
       × (events ≡ listening options (Some sockets) ∷ announced options false ∷ sockets_closed sockets ∷ [])
@@ -82,9 +80,9 @@ module _ {G N : Type 0} (log : Sink G) (sockets : Sockets N) where
   -- `AreServed options old new first last result` holds if the site of `old` served connections over the sockets, from
   -- their state `first` to `last`, within the limits in `options`, with this result. `new` has the site and its log
   -- afterwards.
-  abbrev pub AreServed : ServeOptions → Serving G → Serving G → N → N → Result (Unit {0}) ServingFault → Type 0
+  abbrev pub AreServed : ServeOptions → Serving G → Serving G → N → N → Result (Unit {0}) LoopFault → Type 0
   AreServed options old new first last result =
-      IsConnectionsCall log.holds log.failed log.fails sockets.does (clients_of options.clients) (limits_of options)
+      AreConnectionsServed log.holds log.failed log.fails sockets.does (clients_of options.clients) (limits_of options)
       old.site new.site old.log new.log first last result
 
 module _ {L G N : Type 0} (log : Sink G) (sockets : Sockets N) where
@@ -93,7 +91,7 @@ module _ {L G N : Type 0} (log : Sink G) (sockets : Sockets N) where
   -- (`IsNotListening options`), and the log stays. `left` is the log afterwards.
   abbrev pub IsServedIfListening : ServeOptions → Serving G → Option G → Course L G N
   IsServedIfListening options old left events end =
-      ((first last : N) × (site : SiteView) × (result : Result (Unit {0}) ServingFault) × (rest : List (Event L G N))
+      ((first last : N) × (site : SiteView) × (result : Result (Unit {0}) LoopFault) × (rest : List (Event L G N))
       × (events ≡ listening options (Some first) ∷ announced options true ∷ sockets_closed last ∷ rest)
       × AreServed log sockets options old (record { site = site; log = left }) first last result
       × IsEnded options.listen.now result rest end)

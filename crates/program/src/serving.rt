@@ -17,7 +17,8 @@ use crate::reading::{lent, read_file, read_if_named};
 use crate::rejecting::{report_rejected, schema_given};
 use crate::report::{ANSWERED, FAILED, report_failure, report_memory};
 use connection_loop::limits::Limits;
-use program_drills::{ServingFault, Site, serve_connections};
+use connection_loop::turn::LoopFault;
+use program_drills::{ServingMemory, Site, serve_connections};
 use program_lines::{ServeOptions, SiteName};
 use std::alloc::Global;
 use std::process::ExitCode;
@@ -120,7 +121,8 @@ fn limits_of(options: &ServeOptions<'_>) -> Limits
     }
 }
 
-/// Listens, prints the address, and serves as many connections as `--connections` gives, if that option is present.
+/// Allocates the memory for the connections, listens, prints the address, and serves as many connections as
+/// `--connections` gives, if that option is present.
 fn serve_listening<H: Host>(
     alloc: Global,
     host: &mut H,
@@ -132,24 +134,25 @@ fn serve_listening<H: Host>(
         IsServedIfListening H.Log.Sink H.Sockets.Sockets options.now
         (record { site = site.old; log = log.old }) log.new events (exit_status result)) }
 {
+    let Ok(memory) = ServingMemory::new(alloc, clients_of(options.clients)) else {
+        return report_memory(host);
+    };
     let mut sockets = match listen(host, options) {
         Ok(sockets) => sockets,
         Err(end) => return end,
     };
-    let clients = clients_of(options.clients);
-    let end = serve_connections(alloc, site, log, &mut sockets, clients, &limits_of(options));
+    let end = serve_connections(alloc, site, log, &mut sockets, memory, &limits_of(options));
     host.close_sockets(sockets);
     report_end(host, options.listen, end)
 }
 
 /// Returns the status of a run whose serving ended so; reports an error.
-fn report_end<H: Host>(host: &mut H, address: &str, end: Result<(), ServingFault>) -> ExitCode
+fn report_end<H: Host>(host: &mut H, address: &str, end: Result<(), LoopFault>) -> ExitCode
     ensures { Runs H.does host.old host.new (λ events. IsEnded address.now end events (exit_status result)) }
 {
     match end {
         Ok(()) => ExitCode::from(ANSWERED),
-        Err(ServingFault::NoMemory) => report_memory(host),
-        Err(ServingFault::Network | ServingFault::Commit) => report_failure(host, address),
+        Err(LoopFault::Network | LoopFault::Commit) => report_failure(host, address),
     }
 }
 

@@ -12,6 +12,6 @@ pub use drilling::drill_text;
 
 // of lower layers
 pub use http_service::{
-    Refusal, ServingFault, Site, SiteFault, Taken, error_line, fault_place, serve_connections,
+    Refusal, ServingMemory, Site, SiteFault, Taken, error_line, fault_place, serve_connections,
 };
 pub use schema_decisions::{check_texts, decide_under};

@@ -194,6 +194,12 @@ fn accepting_fails_and_ends(rt: HostRuntime) -> Result<(), Fail> {
         ),
         // a pause that ends while the loop works, between two readings of the clock, is not slept over
         (3, &b"+..!..k.1|..|.."[..], &b"~.!W+0~.~.?"[..]),
+        // where accepting fails, one that is idle for a second makes room, although slots are free
+        (
+            3,
+            &b"+..|..t.9t.9!..+..|..T..|.."[..],
+            &b"~.+0~.!W-0R~00001+0~.?"[..],
+        ),
         // two connections are accepted, and no third; the loop ends when they are gone
         (
             2,

@@ -4,7 +4,9 @@ use crate::line::{BAD_ROW, BETWEEN, Line, NO_MEMORY};
 use crate::replies::push_state;
 use crate::written::{first_word, push_escaped, push_unescaped};
 use entities::Schema;
-use http_service::{Kept, Limits, Plan, ServingFault, Site, SiteName, serve_connections};
+use http_service::{
+    Kept, Limits, LoopFault, Plan, ServingMemory, Site, SiteName, serve_connections,
+};
 use plain::{NoMemory, Shared};
 use std::alloc::Global;
 use test_connection_loop::Played;
@@ -40,19 +42,21 @@ fn script_of(alloc: Global, text: &str) -> Result<Vec<u8>, NoMemory> {
     script.ended()
 }
 
-/// Appends the code of an error, or `-` without one.
-fn push_fault(line: &mut Line, fault: Option<ServingFault>) {
+/// Appends the word for an error, or `-` without one.
+fn push_fault(line: &mut Line, fault: Option<LoopFault>) {
     match fault {
         None => line.push(b"-, "),
-        Some(ServingFault::NoMemory) => line.push(b"1, "),
-        Some(ServingFault::Network) => line.push(b"network, "),
-        Some(ServingFault::Commit) => line.push(b"commit, "),
+        Some(LoopFault::Network) => line.push(b"network, "),
+        Some(LoopFault::Commit) => line.push(b"commit, "),
     }
 }
 
 /// Serves an empty site over connections and appends the outcome.
 fn push_served(alloc: Global, site: &mut Site, script: &[u8], line: &mut Line) {
-    let Ok(mut sockets) = Played::new(alloc, CLIENTS, script) else {
+    let (Ok(mut sockets), Ok(memory)) = (
+        Played::new(alloc, CLIENTS, script),
+        ServingMemory::new(alloc, CLIENTS),
+    ) else {
         line.push(NO_MEMORY);
         return;
     };
@@ -61,7 +65,7 @@ fn push_served(alloc: Global, site: &mut Site, script: &[u8], line: &mut Line) {
         idle: None,
     };
     let mut log = Some(Kept::new(alloc, Plan::new(&[], None)));
-    let fault = serve_connections(alloc, site, &mut log, &mut sockets, CLIENTS, &limits).err();
+    let fault = serve_connections(alloc, site, &mut log, &mut sockets, memory, &limits).err();
     push_fault(line, fault);
     push_state(line, site);
     line.push(BETWEEN.as_bytes());

@@ -13,7 +13,7 @@ returns-in-Err-clause-goes g c =
     let s = g.S.Service in
     let start : Course = c.args.course.now in
     let table = c.args.slots.now in
-    let mid : Course = record start { busy = false; nobody = false; sought = false } in
+    let mid : Course = record start { busy = false; nobody = false; failed = false; sought = false } in
     goes_outer s.answers s.lines s.commits s.commit_fails g.L.Log.writes g.L.Log.cuts g.N.Sockets.does (IsWaiting c.args.limits.now false)
     start mid table table c.args.sockets.now c.wait.new.self c.args.service.now c.args.log.now
     (waited g.N.Sockets.does c.args.limits.now c.wait_of-millis.result false start table c.args.sockets.now c.wait.new.self
@@ -23,7 +23,7 @@ pub answer_round-requires : goal.answer_round-requires
 answer_round-requires g c =
     let x = c.receive_all.ensures in
     let start : Course = c.args.course.now in
-    let mid : Course = record start { busy = false; nobody = false; sought = false } in
+    let mid : Course = record start { busy = false; nobody = false; failed = false; sought = false } in
     outer_ready g.S.Service.is_unfinished c.tables_are_ready.ensures (entries_of mid x.happenings) c.args.slots.now c.receive_all.new.slots
     x.outer x.changes c.requires.ready
 
@@ -33,7 +33,7 @@ returns-then-answer_round-clause-goes g c =
     let does = g.N.Sockets.does in
     let limits = c.args.limits.now in
     let start : Course = c.args.course.now in
-    let mid : Course = record start { busy = false; nobody = false; sought = false } in
+    let mid : Course = record start { busy = false; nobody = false; failed = false; sought = false } in
     let table = c.args.slots.now in
     let service = c.args.service.now in
     let log = c.args.log.now in
@@ -66,7 +66,7 @@ returns-clause-goes g c =
     let does = g.N.Sockets.does in
     let limits = c.args.limits.now in
     let start : Course = c.args.course.now in
-    let mid : Course = record start { busy = false; nobody = false; sought = false } in
+    let mid : Course = record start { busy = false; nobody = false; failed = false; sought = false } in
     let table = c.args.slots.now in
     let service = c.args.service.now in
     let log = c.args.log.now in

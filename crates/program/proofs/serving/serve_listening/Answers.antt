@@ -11,6 +11,6 @@ pub returns : goal.returns
 returns g c =
     served_listening g.H.Host.does g.H.Log.Sink g.H.Sockets.Sockets c.args.options.now _ _ _ _
     (record { site = c.args.site.now; log = c.args.log.now }) _ _ _ _ _ (exit_status c.report_end.result)
-    c.in-Ok.ensures
-    (rw (c.clients_of-clients.ensures, c.limits_of.ensures) at c.serve_connections-end.ensures)
+    c.in-Ok-listen.ensures
+    (rw (c.in-Ok.ensures, c.clients_of.ensures, c.limits_of.ensures) at c.serve_connections-end.ensures)
     c.close_sockets.ensures c.report_end.ensures
