@@ -32,6 +32,9 @@ import tempfile
 import time
 
 TOP = os.path.dirname(os.path.dirname(os.path.abspath(__file__)))
+sys.path.insert(0, f"{TOP}/tools/build")
+import archive  # noqa: E402
+
 HERE, OUT = f"{TOP}/embedding", f"{TOP}/embedding/out"
 SITES, TEXTS = 10_000, 200
 # what the library may call of the C library
@@ -197,46 +200,13 @@ def of_rust_codes():
 # ---- the library
 
 
-def named():
-    """Returns the crates that crates.txt lists, each with what it names."""
-    lines = (it.partition("#")[0].partition(":") for it in read("crates.txt").split("\n"))
-    return {name.split()[0]: libraries.split() for name, _, libraries in lines if name.strip()}
-
-
-def below(crates, name):
-    """Returns the crates of the repository that one stands on, and the kit's libraries that it names itself."""
-    own, todo = [], [name]
-    while todo:
-        for it in crates[todo.pop()]:
-            if it in crates and it not in own:
-                own.append(it)
-                todo.append(it)
-    return own
-
-
-def kit():
-    return os.path.dirname(subprocess.run(["rt", "doc"], capture_output=True, text=True, check=True).stdout.strip())
-
-
 def build_archive(count):
     """Builds the archive of the crate. Returns its path, or None."""
-    crates, folder = named(), f"{TOP}/crates/weirbowl"
-    rlib = {it: f"{TOP}/crates/{it}/out/rlib/{it}.rlib" for it in below(crates, "weirbowl")}
-    archive = f"{folder}/out/libweirbowl.a"
-    if not all(map(os.path.exists, rlib.values())):
-        return archive if count.run("the archive, by rt lib", ["sh", "-c", f"cd {folder} && rt lib"]) else None
-    # what rt gives rattle, over the libraries that the gate built
-    words = [f"{kit()}/bin/rattle", "build", "--crate-name", "weirbowl", "src/lib.rt", "-L", f"dependency={kit()}/rlibs"]
-    for it in ("std", *crates["weirbowl"]):
-        words += ["--extern", f"{it}={rlib.get(it, f'{kit()}/rlibs/{it}.rlib')}"]
-    for path in rlib.values():
-        words += ["-L", f"dependency={os.path.dirname(path)}"]
-    words += ["--antt-project", f"{kit()}/rattle/logic/antt-project.json", "--logic-built", f"{kit()}/logic_built"]
-    words += ["--jobs", "2", "--links", "weirbowl=", "--crate-type", "staticlib", "--toolchain", f"{kit()}/toolchain", "-o", "out/libweirbowl.a"]
-    os.makedirs(f"{folder}/out", exist_ok=True)
-    done = subprocess.run(words, cwd=folder, capture_output=True, text=True, errors="replace")
-    proved = done.returncode == 0 and "logic=proved" in done.stdout + done.stderr
-    return archive if count.check("the archive, proved", proved, (done.stdout + done.stderr)[-3000:]) else None
+    place = f"{archive.FOLDER}/out/libweirbowl.a"
+    if archive.missing():
+        return place if count.run("the archive, by rt lib", ["sh", "-c", f"cd {archive.FOLDER} && rt lib"]) else None
+    failed = archive.build_archive(place, f"{archive.kit()}/toolchain")
+    return place if count.check("the archive, proved", not failed, failed) else None
 
 
 def version_in(name):
@@ -248,14 +218,14 @@ def symbols(path, *flags):
     return {it.split()[-1] for it in listed.split("\n") if it.strip() and not it.endswith(":")}
 
 
-def link(count, archive):
+def link(count, built):
     """Makes what programs link, and looks at its symbols."""
     os.makedirs(OUT, exist_ok=True)
     whole, shared, script = f"{OUT}/libweirbowl.a", f"{OUT}/{SONAME}", f"{OUT}/exports.map"
     for path in (whole, f"{OUT}/libweirbowl.so"):
         if os.path.lexists(path):
             os.remove(path)
-    lines = ["CREATE " + whole, "ADDLIB " + archive, f"ADDLIB {kit()}/c/liblibc_c.a", "SAVE", "END"]
+    lines = ["CREATE " + whole, "ADDLIB " + built, f"ADDLIB {archive.kit()}/c/liblibc_c.a", "SAVE", "END"]
     subprocess.run(["ar", "-M"], input="\n".join(lines) + "\n", text=True, check=True)
     with open(script, "w", encoding="utf-8") as file:
         file.write("WEIRBOWL_1 { global: weirbowl_*; local: *; };\n")
@@ -269,7 +239,7 @@ def link(count, archive):
     count.check("the shared library shows the exports alone", shown == names, differing_sets(names, shown))
     wanted = symbols(whole, "--undefined-only") - symbols(whole, "--defined-only")
     count.check("what is needed of the C library", wanted <= ALLOWED, f"expected at most {sorted(ALLOWED)}, got also {sorted(wanted - ALLOWED)}")
-    defined = symbols(archive, "--defined-only", "--extern-only")
+    defined = symbols(built, "--defined-only", "--extern-only")
     count.check("the archive defines the exports alone", defined == names, differing_sets(names, defined))
     print(f"bytes: {os.path.getsize(whole)} of the archive, {os.path.getsize(shared)} of the shared library", flush=True)
 
@@ -400,6 +370,13 @@ class Draw:
                 made[key] = {"type": type_name, "id": f"{type_name[0].lower()}{self.random.randrange(6)}"}
         return self.garbled(json.dumps(made))
 
+    def texts(self):
+        """Returns the texts of a decision."""
+        policies = "\n".join(self.policy() for _ in range(self.of(0, 1, 1, 2, 3)))
+        entities = ",".join(self.entity().decode(errors="replace") for _ in range(self.of(0, 1, 2)))
+        texts = {"schema": json.dumps(SCHEMA), "policies": policies, "entities": f"[{entities}]"}
+        return {**{it: self.garbled(text) for it, text in texts.items()}, "request": self.request()}
+
     def garbled(self, text):
         """Returns the bytes of a text, now and then with one changed or the end cut off."""
         given = bytearray(text.encode())
@@ -514,12 +491,7 @@ def same_texts(library, program, folder, draw):
     """Returns the first texts whose outcomes differ, or none. The program ends with 0, or with 1 for an error or a rejected policy."""
     files = {it: f"{folder}/{it}" for it in ("schema", "policies", "entities", "request")}
     for number in range(TEXTS):
-        texts = {
-            "schema": draw.garbled(json.dumps(SCHEMA)),
-            "policies": draw.garbled("\n".join(draw.policy() for _ in range(draw.of(0, 1, 1, 2, 3)))),
-            "entities": draw.garbled("[" + ",".join(draw.entity().decode(errors="replace") for _ in range(draw.of(0, 1, 2))) + "]"),
-            "request": draw.request(),
-        }
+        texts = draw.texts()
         for it, path in files.items():
             with open(path, "wb") as file:
                 file.write(texts[it])
@@ -564,9 +536,9 @@ def main():
     about_declarations(count)
     if not shutil.which("cc") or not shutil.which("ar") or not shutil.which("nm"):
         count.skip("the library", "no C compiler")
-    elif (built and os.path.exists(f"{OUT}/libweirbowl.so")) or (archive := build_archive(count)):
+    elif (built and os.path.exists(f"{OUT}/libweirbowl.so")) or (made := build_archive(count)):
         if not built:
-            link(count, archive)
+            link(count, made)
         try_c(count)
         try_rust(count)
         try_python(count)

@@ -88,6 +88,8 @@ static bool run(long number) {
     EXPECT(weirbowl_decision_of(r, out, sizeof out) == WEIRBOWL_DENY);
     AGAIN(r, weirbowl_check(BYTES(SCHEMA), BYTES("permit(principal, action, resource) when { 1 };"), out, sizeof out));
     EXPECT(r.status == 422);
+    AGAIN(r, weirbowl_explain(BYTES(SCHEMA), BYTES("#"), BYTES("[]"), BYTES(REQUEST), out, sizeof out));
+    EXPECT(r.status == 200 && !memcmp(out, "error 10: ", 10));
     EXPECT(weirbowl_close(&one) && weirbowl_close(&two));
     left = -1;
     EXPECT(blocks == 0);

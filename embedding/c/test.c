@@ -153,6 +153,9 @@ static void texts(void) {
                              sizeof out), 422, "{\"code\":44,\"id\":\"policy0\",\"verdict\":\"refused\"}"));
     EXPECT(is(weirbowl_check(BYTES(SCHEMA), BYTES("#"), out, sizeof out), 422,
               "{\"error\":{\"code\":10,\"place\":0,\"within\":null}}"));
+    EXPECT(is(weirbowl_explain(BYTES(SCHEMA), BYTES(ALL), BYTES("[]"), BYTES(REQUEST), out, sizeof out), 200, ""));
+    weirbowl_result e = weirbowl_explain(BYTES(SCHEMA), BYTES("#"), BYTES("[]"), BYTES(REQUEST), out, sizeof out);
+    EXPECT(e.status == 200 && weirbowl_fits(e, sizeof out) && memcmp(out, "error 10: ", 10) == 0);
     weirbowl_result r = weirbowl_decide(BYTES(ALL), BYTES("[]"), BYTES(REQUEST), out, 3);
     EXPECT(r.status == 200 && r.length > 3);
 }

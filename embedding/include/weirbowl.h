@@ -203,6 +203,13 @@ weirbowl_result weirbowl_decide_under(const uint8_t *schema, size_t schema_lengt
 weirbowl_result weirbowl_check(const uint8_t *schema, size_t schema_length, const uint8_t *policies,
                                size_t policies_length, uint8_t *out, size_t out_length);
 
+/* Explains what is rejected in these texts, as `cedar_site explain` does of files with the names schema, policies, entities
+ * and request. The status is 200 with the explanation, which has no bytes if and only if nothing is rejected; or 503 without
+ * a body. */
+weirbowl_result weirbowl_explain(const uint8_t *schema, size_t schema_length, const uint8_t *policies,
+                                 size_t policies_length, const uint8_t *entities, size_t entities_length,
+                                 const uint8_t *request, size_t request_length, uint8_t *out, size_t out_length);
+
 #ifdef __cplusplus
 }
 #endif

@@ -7,7 +7,7 @@ import threading
 import unittest
 
 import weirbowl
-from weirbowl import Answer, ErringPolicy, Error, Site, Stamp, Verdict, check, decide, decide_under, request
+from weirbowl import Answer, ErringPolicy, Error, Site, Stamp, Verdict, check, decide, decide_under, explain, request
 
 SCHEMA = {"": {"entityTypes": {"User": {"memberOfTypes": ["Team"]}, "Team": {}, "Photo": {}},
                "actions": {"view": {"appliesTo": {"principalTypes": ["User"], "resourceTypes": ["Photo"]}}}}}
@@ -133,6 +133,10 @@ class Texts(unittest.TestCase):
         self.assertEqual(check(SCHEMA, ""), [])
         with self.assertRaises(Error):
             check(SCHEMA, "#")
+
+    def test_explains(self):
+        self.assertEqual(explain(SCHEMA, ALL, [], ANN_VIEWS), "")
+        self.assertRegex(explain(SCHEMA, "permit(principal", [], ANN_VIEWS), "^error 11: .*\\n --> policies:1:17\\n")
 
 
 if __name__ == "__main__":

@@ -1,8 +1,10 @@
 -- Defines what a call over texts, without a site, returns and writes.
 -- Source: docs/formats.md, "The answer line" and "The lines of `check`".
--- Rules of this product: the status is 200 for an answer, and for policies that all pass. It is 422 for rejected texts,
--- and if one of the policies does not pass. It is 503, without a body, if out of memory.
-use Rattle.std.specs.Prelude.{◌≡◌, ◌⊎◌, ℕ, Bool, List, length, if◌then◌else◌}
+-- Rules of this product: the status is 200 for an answer, for policies that all pass, and for an explanation. It is 422
+-- for rejected texts, and if one of the policies does not pass. It is 503, without a body, if out of memory.
+use Rattle.std.specs.Prelude.{◌≡◌, ◌⊎◌, ℕ, Bool, List, Some, codes, length, if◌then◌else◌}
+use Rattle.explanations.specs.Files.{Files}
+use Rattle.explanations.specs.FileExplanations.{IsExplained}
 use Rattle.schema_decisions.specs.answer_lines.declared.refusal.Refusal.{Refusal}
 use Rattle.schema_decisions.specs.answer_lines.Refusals.{error_line}
 use Rattle.schema_decisions.specs.decision_texts.BareReading.{bare_reading}
@@ -53,3 +55,20 @@ Checks schema policies r before after =
     ((text : List ℕ) × (some_rejected : Bool) × IsChecked schema policies text some_rejected
     × Returns (checked_status some_rejected) text r before after)
     ⊎ Rejects (AreChecksRefused schema policies) r before after
+
+-- `files_named schema policies entities request` are these texts, each under the name that an explanation of it shows.
+abbrev pub files_named : List ℕ → List ℕ → List ℕ → List ℕ → Files
+files_named schema policies entities request = record {
+  schema = Some (record { name = codes "schema"; text = schema });
+  policies = record { name = codes "policies"; text = policies };
+  entities = Some (record { name = codes "entities"; text = entities });
+  request = Some (record { name = codes "request"; text = request });
+}
+
+-- `Explains schema policies entities request r before after` holds if the call may return `r` and turn the memory
+-- `before` into `after`: the explanation of what is rejected in these texts, or out of memory.
+abbrev pub Explains : List ℕ → List ℕ → List ℕ → List ℕ → CallResult → List ℕ → List ℕ → Type 0
+Explains schema policies entities request r before after =
+    ((text : List ℕ) × IsExplained (files_named schema policies entities request) text
+    × Returns 200 text r before after)
+    ⊎ ((r ≡ no_memory) × (after ≡ before))

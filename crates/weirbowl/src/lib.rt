@@ -26,4 +26,4 @@ pub use site_exports::{
     weirbowl_put_entity, weirbowl_put_policy, weirbowl_state, weirbowl_summary,
 };
 pub use slot::SiteSlot;
-pub use text_calls::{weirbowl_check, weirbowl_decide, weirbowl_decide_under};
+pub use text_calls::{weirbowl_check, weirbowl_decide, weirbowl_decide_under, weirbowl_explain};

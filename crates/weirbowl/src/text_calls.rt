@@ -3,12 +3,15 @@
 //! Each copies its result to the beginning of `out`, if `out` is long enough, and returns a status and the length of
 //! the result. Out of memory has the status 503 and no result.
 ghost use Rattle.std.specs.Prelude.{◌≡◌, length};
+ghost use Rattle.explanations.specs.Files.{files_of};
 ghost use Rattle.schema_decisions.specs.answer_lines.Refusals.{no_memory as memory_refused};
 ghost use Rattle.weirbowl.specs.Copies.{copied};
 ghost use Rattle.weirbowl.specs.TextCalls.{Decides, DecidesUnder, Checks, Rejects, Returns, no_memory, checked_status};
+ghost use Rattle.weirbowl.specs.TextCalls.{Explains, files_named};
 
 use crate::call_result::CallResult;
 use crate::copying::copy_out;
+use explanations::{Given, NamedText, explain_texts};
 use http_replies::error_line;
 use schema_decisions::{Refusal, check_texts, decide_texts, decide_under};
 use std::alloc::Global;
@@ -106,5 +109,53 @@ pub extern "C" fn weirbowl_check(
     match check_texts(alloc, schema, policies) {
         Ok((lines, some_rejected)) => report_text(checked_status(some_rejected), &lines, out),
         Err(refusal) => report_error(alloc, refusal, out),
+    }
+}
+
+/// Returns these texts, each under the name that an explanation of it shows.
+fn files_named<'t>(
+    schema: &'t [u8],
+    policies: &'t [u8],
+    entities: &'t [u8],
+    request: &'t [u8],
+) -> Given<'static, 't>
+    ensures { files_of result ≡ files_named schema.now policies.now entities.now request.now }
+{
+    Given {
+        schema: Some(NamedText {
+            name: "schema",
+            text: schema,
+        }),
+        policies: NamedText {
+            name: "policies",
+            text: policies,
+        },
+        entities: Some(NamedText {
+            name: "entities",
+            text: entities,
+        }),
+        request: Some(NamedText {
+            name: "request",
+            text: request,
+        }),
+    }
+}
+
+/// Explains what is rejected in these texts: copies the explanation (200) into `out`. It has no bytes if and only if
+/// nothing is rejected.
+#[unsafe(no_mangle)]
+pub extern "C" fn weirbowl_explain(
+    alloc: Global,
+    schema: &[u8],
+    policies: &[u8],
+    entities: &[u8],
+    request: &[u8],
+    out: &mut [u8],
+) -> CallResult
+    ensures { Explains schema.now policies.now entities.now request.now result out.old out.new }
+{
+    match explain_texts(alloc, &files_named(schema, policies, entities, request)) {
+        Ok(text) => report_text(200, text.as_bytes(), out),
+        Err(_) => no_memory(),
     }
 }

@@ -20,7 +20,7 @@ import os
 import threading
 from typing import Any, NamedTuple, Optional, Union
 
-__all__ = ["Answer", "ErringPolicy", "Error", "Found", "Put", "Site", "Stamp", "Verdict", "check", "decide", "decide_under", "request"]
+__all__ = ["Answer", "ErringPolicy", "Error", "Found", "Put", "Site", "Stamp", "Verdict", "check", "decide", "decide_under", "explain", "request"]
 
 Json = Union[bytes, str, dict, list]
 
@@ -210,6 +210,7 @@ CALLS = {
     "decide": (_CallResult, [*_BYTES, *_BYTES, *_BYTES, *_OUT]),
     "decide_under": (_CallResult, [*_BYTES, *_BYTES, *_BYTES, *_BYTES, *_OUT]),
     "check": (_CallResult, [*_BYTES, *_BYTES, *_OUT]),
+    "explain": (_CallResult, [*_BYTES, *_BYTES, *_BYTES, *_BYTES, *_OUT]),
 }
 
 
@@ -418,3 +419,11 @@ def check(schema: Json, policies: Union[bytes, str]) -> list[Verdict]:
         raise _error(status, body)
     lines = [json.loads(line) for line in body.split(b"\n") if line]
     return [Verdict(it["id"], it["verdict"], it.get("code")) for it in lines]
+
+
+def explain(schema: Json, policies: Union[bytes, str], entities: Json, request: Json) -> str:
+    """Explains what is rejected in these texts, with the line, the column and an excerpt of each error; "" if nothing is."""
+    status, body = _text_call("explain", schema, policies, entities, request)
+    if status != 200:
+        raise _error(status, body)
+    return body.decode()

@@ -33,4 +33,5 @@ unsafe extern "C" {
     pub(crate) fn weirbowl_decide(policies: *const u8, policies_length: usize, entities: *const u8, entities_length: usize, request: *const u8, request_length: usize, out: *mut u8, out_length: usize) -> CallResult;
     pub(crate) fn weirbowl_decide_under(schema: *const u8, schema_length: usize, policies: *const u8, policies_length: usize, entities: *const u8, entities_length: usize, request: *const u8, request_length: usize, out: *mut u8, out_length: usize) -> CallResult;
     pub(crate) fn weirbowl_check(schema: *const u8, schema_length: usize, policies: *const u8, policies_length: usize, out: *mut u8, out_length: usize) -> CallResult;
+    pub(crate) fn weirbowl_explain(schema: *const u8, schema_length: usize, policies: *const u8, policies_length: usize, entities: *const u8, entities_length: usize, request: *const u8, request_length: usize, out: *mut u8, out_length: usize) -> CallResult;
 }

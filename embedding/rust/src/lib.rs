@@ -336,3 +336,37 @@ pub fn check(schema: impl AsRef<[u8]>, policies: impl AsRef<[u8]>) -> Result<Vec
     }
     Ok(body.split(|byte| *byte == b'\n').filter(|line| !line.is_empty()).map(Verdict::read).collect())
 }
+
+/// Explains what is rejected in these texts: an explanation of each error, with the line, the column and an excerpt, or the
+/// JSON pointer. It is empty if and only if nothing is rejected.
+///
+/// # Errors
+///
+/// - 1: out of memory.
+pub fn explain(
+    schema: impl AsRef<[u8]>,
+    policies: impl AsRef<[u8]>,
+    entities: impl AsRef<[u8]>,
+    request: impl AsRef<[u8]>,
+) -> Result<String, Error> {
+    let (s, p, e, r) = (schema.as_ref(), policies.as_ref(), entities.as_ref(), request.as_ref());
+    // SAFETY: the pointers and lengths are those of slices.
+    let (status, body) = text_call(|out, room| unsafe {
+        weirbowl_explain(
+            s.as_ptr(),
+            s.len(),
+            p.as_ptr(),
+            p.len(),
+            e.as_ptr(),
+            e.len(),
+            r.as_ptr(),
+            r.len(),
+            out,
+            room,
+        )
+    });
+    match status {
+        200 => Ok(String::from_utf8_lossy(&body).into_owned()),
+        _ => Err(Error::read(status, &body)),
+    }
+}

@@ -1,4 +1,4 @@
-use weirbowl::{check, decide, decide_under, request, request_with_context, Code, Decision, Site, Uid, Verdict};
+use weirbowl::{check, decide, decide_under, explain, request, request_with_context, Code, Decision, Site, Uid, Verdict};
 
 const SCHEMA: &str = r#"{"":{"entityTypes":{"User":{"memberOfTypes":["Team"]},"Team":{},"Photo":{}},"actions":{"view":{"appliesTo":{"principalTypes":["User"],"resourceTypes":["Photo"]}}}}}"#;
 const ALL: &str = "permit(principal, action, resource);";
@@ -84,6 +84,9 @@ fn decides_over_texts() {
     assert_eq!(verdicts, [("policy0".to_string(), Verdict::Accepted), ("policy1".to_string(), Verdict::Rejected(44))]);
     assert_eq!(check(SCHEMA, "#").unwrap_err().code, 10);
     assert_eq!(check(SCHEMA, "").unwrap(), []);
+    assert_eq!(explain(SCHEMA, ALL, "[]", ann_views()).unwrap(), "");
+    let explained = explain(SCHEMA, "permit(principal", "[]", ann_views()).unwrap();
+    assert!(explained.starts_with("error 11: ") && explained.contains("\n --> policies:1:17\n"), "{explained}");
 }
 
 #[test]

@@ -40,7 +40,6 @@ use Rattle.std.specs.Prelude.{Some, None, is_some, true}
 use Rattle.std.specs.contracts.alloc.Global as global
 use Rattle.std.specs.contracts.boxed.Box.from_raw as from_raw
 use Rattle.std.specs.contracts.impls.GlobalAllocator.TheImpl.{ghosts, dict}
-use Rattle.weirbowl.proofs.embedded.EmbeddedSite.TheLaws as site
 use Rattle.weirbowl.specs.Ownership.{may_free, owned_at, site_at}
 use Rattle.weirbowl.specs.contracts.pointer.SitePointer.take as f
 use Rattle.weirbowl.proofs.Destruct++none.drop.Code.{code as none}

@@ -39,7 +39,7 @@ use Rattle.std.specs.contracts.boxed.Box as std_box
 use Rattle.std.specs.contracts.boxed.Box.into_raw as into_raw
 use Rattle.std.specs.contracts.impls.GlobalAllocator.TheImpl.{ghosts, dict}
 use Rattle.weirbowl.specs.Ownership.{may_free, owned_at}
-use Rattle.weirbowl.specs.contracts.raw_box.RawBox.from_box.{signature, ended, clauses}
+use Rattle.weirbowl.specs.contracts.raw_box.RawBox.from_box.{ended, clauses}
 use Rattle.weirbowl.specs.contracts.raw_box.RawBox.from_box.Key.{name as #from_box}
 use Rattle.weirbowl.proofs.Destruct++none.drop.Code.{code as none}
 use Rattle.weirbowl.proofs.Heap.{heap, heap_laws, heap_drop, box_in_heap}
